@@ -20,7 +20,7 @@ use Rattle.dap_messages.specs.declared.told.Shape.TheVariants.{Nothing, Capabili
 use Rattle.dap_messages.specs.declared.told.Shape.TheVariants.{StackFrames, Scopes, Variables, ExceptionInfo}
 use Rattle.dap_messages.specs.declared.told.Shape.TheVariants.{Written as IsWritten, Evaluated as IsEvaluated}
 use Rattle.dap_messages.specs.declared.told.Event.{Event}
-use Rattle.dap_messages.specs.declared.told.Event.TheVariants.{Initialized, Breakpoint as Changed, Terminated}
+use Rattle.dap_messages.specs.declared.told.Event.TheVariants.{Initialized, Breakpoint as Changed, Output, Terminated}
 use Rattle.dap_messages.specs.declared.told.Event.TheVariants.{Thread as ThreadChanged, Stopped as HasStopped}
 use Rattle.dap_messages.specs.declared.told.StopReason.{StopReason}
 use Rattle.dap_messages.specs.declared.told.StopReason.TheVariants.{Breakpoint as Hit, Exception, Step, Pause}
@@ -170,6 +170,7 @@ has_float-event_data seq (Changed breakpoint) =
 has_float-event_data seq (ThreadChanged change) = refl
 has_float-event_data seq (HasStopped stopped) =
     ap (λ found. found || false) (has_float-stop_data stopped.reason stopped.thread)
+has_float-event_data seq (Output text) = refl
 has_float-event_data seq Terminated = refl
 
 pub has_float-told_data : (seq : ℕ) (message : Told) → has_float (told_data seq message) ≡ false

@@ -1,7 +1,8 @@
 ghost use Rattle.std.specs.Prelude.{◌≡◌, IfOk, option_map};
 ghost use Rattle.serde_json.specs.View.{view};
 ghost use Rattle.dap_messages.specs.Events.{change_reason, changed_data, event_data, halt_data, hit_data};
-ghost use Rattle.dap_messages.specs.Events.{named_data, stop_data, stopped_data, thread_changed_data};
+ghost use Rattle.dap_messages.specs.Events.{named_data, output_data, stop_data, stopped_data};
+ghost use Rattle.dap_messages.specs.Events.{thread_changed_data};
 
 use crate::bodies::breakpoint_value;
 use crate::objects::{Member, object};
@@ -19,6 +20,7 @@ pub(crate) fn event_value(alloc: Global, seq: u64, event: &Event) -> Result<Valu
         Event::Breakpoint(breakpoint) => changed_value(alloc, seq, *breakpoint),
         Event::Thread(change) => thread_changed_value(alloc, seq, *change),
         Event::Stopped(stopped) => stopped_value(alloc, seq, stopped),
+        Event::Output(text) => output_value(alloc, seq, text),
         Event::Terminated => named_value(alloc, seq, "terminated", None),
     }
 }
@@ -68,6 +70,17 @@ fn thread_changed_value(alloc: Global, seq: u64, change: ThreadChange) -> Result
     ]?;
     let body = object(alloc, members)?;
     named_value(alloc, seq, "thread", Some(body))
+}
+
+fn output_value(alloc: Global, seq: u64, text: &Text) -> Result<Value, AllocError>
+    ensures { IfOk result (λ value. view value ≡ output_data seq text.now) }
+{
+    let members = vec![in alloc;
+        ("category", Member::Words("console")),
+        ("output", Member::Words(text.as_str())),
+    ]?;
+    let body = object(alloc, members)?;
+    named_value(alloc, seq, "output", Some(body))
 }
 
 fn stopped_value(alloc: Global, seq: u64, stopped: &Stopped) -> Result<Value, AllocError>

@@ -28,4 +28,4 @@ pub use told::{
     BreakMode, Breakpoint, BreakpointStatus, Detail, Evaluated, Event, Failure, Outcome, Response,
     Shape, Source, StackFrame, StopReason, Stopped, Thread, ThreadChange, Told, Variable, Written,
 };
-pub use write::text_of;
+pub use write::{message_of, text_of};

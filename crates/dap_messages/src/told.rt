@@ -207,6 +207,8 @@ pub enum Event {
     Thread(ThreadChange),
     /// The target stands still. (DAP specification, Events, Stopped)
     Stopped(Stopped),
+    /// A breakpoint logs this. (DAP specification, Events, Output)
+    Output(Text),
     /// Nothing more comes of the debuggee. (DAP specification, Events, Terminated)
     Terminated,
 }

@@ -122,7 +122,9 @@ fn format_of(alloc: Global, failure: &Failure) -> Result<String, AllocError>
     }
 }
 
-fn message_of(code: u8) -> &'static str
+/// The message of a failure's code; that of a code of no failure is empty (DAP specification, Base Protocol, Response,
+/// `message`).
+pub fn message_of(code: u8) -> &'static str
     ensures { result.now ≡ message_of code }
 {
     match code {

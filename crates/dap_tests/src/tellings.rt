@@ -272,6 +272,7 @@ fn event_of(alloc: Global, about: &str) -> Result<Event, Fail> {
             reason: reason_of(alloc, reason)?,
             thread: 4,
         })),
+        ("output", text) => Ok(Event::Output(Text::from_str(alloc, text)?)),
         _ => Err("no event".into()),
     }
 }
@@ -427,6 +428,7 @@ event breakpoint 1|10|Verified => {"body":{"breakpoint":{"id":1,"line":10,"verif
 event breakpoint 2|-|Verified => {"body":{"breakpoint":{"id":2,"verified":true},"reason":"changed"},"event":"breakpoint","seq":5,"type":"event"}
 event started 3 => {"body":{"reason":"started","threadId":3},"event":"thread","seq":5,"type":"event"}
 event exited 3 => {"body":{"reason":"exited","threadId":3},"event":"thread","seq":5,"type":"event"}
+event output i is "5" => {"body":{"category":"console","output":"i is \"5\""},"event":"output","seq":5,"type":"event"}
 "#;
 
 #[test]

@@ -201,9 +201,13 @@ fn steps_from(
     }
 }
 
-// What an expression names.
+/// What an expression names in a frame, with the place that it stands in, or why there is no value, by what was learnt
+/// and replied. A name is that of the first visible variable, else of a field of the receiver; an array has the field
+/// `length` alone. The time is that of the method's variables in order of their slots, and of the fields of the classes
+/// that are searched. `NoMemory` comes where memory is refused, and where an array's length would be 2^31 or more (Java
+/// Language Specification, Expressions, Field Access Expressions and Array Access Expressions).
 #[tactic(auto, using(machine_model::proofs::PlanIds::need_chained))]
-fn named_in(
+pub fn sought_need(
     alloc: Global,
     sight: Sight<'_>,
     frame: FrameThing,
@@ -253,12 +257,9 @@ fn sought_shown(
     }
 }
 
-/// The value of an expression in a frame as it is shown, or why there is none, by what was learnt and replied. Its
-/// type is found where `types` holds. A name is that of the first visible variable, else of a field of the receiver;
-/// an array has the field `length` alone. The time is that of the method's variables in order of their slots, and of
-/// the fields of the classes that are searched. `NoMemory` comes where memory is refused, and where an array's
-/// length would be 2^31 or more (DAP specification, Evaluate request; Java Language Specification, Expressions,
-/// Field Access Expressions and Array Access Expressions).
+/// The value of an expression in a frame as it is shown, or why there is none, by what was learnt and replied: what
+/// `sought_need` comes to, and what is heard of it. Its type is found where `types` holds. `NoMemory` comes where memory
+/// is refused, and where an array's length would be 2^31 or more (DAP specification, Evaluate request).
 #[tactic(auto, using(machine_model::proofs::PlanIds::need_chained))]
 pub fn value_need(
     alloc: Global,
@@ -270,7 +271,7 @@ pub fn value_need(
     ensures { IfOk result (λ found. need_with value_said found
         ≡ need (seen_by sight.entry) (value_plan types frame expression.now)) }
 {
-    match named_in(alloc, sight, frame, expression)? {
+    match sought_need(alloc, sight, frame, expression)? {
         Need::Has(sought) => sought_shown(alloc, sight, types, sought),
         Need::Fails { place, code } => Ok(Need::Fails { place, code }),
         Need::Lacks { first, others } => Ok(Need::Lacks { first, others }),

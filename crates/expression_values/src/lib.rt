@@ -6,4 +6,5 @@ mod field_search;
 mod sought;
 mod steps;
 
-pub use expressions::value_need;
+pub use expressions::{sought_need, value_need};
+pub use sought::{Sought, Valued};

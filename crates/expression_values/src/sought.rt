@@ -12,9 +12,9 @@ use std::marker::Model;
 
 /// A value, and the signature of the place that it stands in. Contracts see it as the definitions do.
 #[derive(Drop)]
-pub(crate) struct Valued {
-    pub(crate) value: Value,
-    pub(crate) declared: Declared,
+pub struct Valued {
+    pub value: Value,
+    pub declared: Declared,
 }
 
 impl Model for Valued {
@@ -27,7 +27,7 @@ impl Model for Valued {
 }
 
 /// What comes of a search for a value: the value, or why there is none.
-pub(crate) type Sought = Result<Valued, Failure>;
+pub type Sought = Result<Valued, Failure>;
 
 /// There is no value, and nothing more is asked.
 pub(crate) fn missing(failure: Failure) -> Need<Sought>

@@ -272,6 +272,7 @@ event_less events.Initialized view = omega arith
 event_less (events.Breakpoint breakpoint) view = omega arith
 event_less (events.Thread change) view = omega arith
 event_less (events.Stopped stop) view = omega arith
+event_less (events.Output text) view = omega arith
 event_less events.Terminated view = omega arith
 
 replied_less : (gone ended : Bool) (command : TargetCommand) (replied : Replied) (view : View)

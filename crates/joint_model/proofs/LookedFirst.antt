@@ -1,10 +1,10 @@
 -- A look-up that is still to be done has no deed before it: whatever was sent for the item in hand changed no value.
-use Rattle.std.proofs.Common.{◌≡◌, Bool, true, false, cond, not, ◌||◌, List, [], ◌∷◌, ◌++◌, Option, Some, None, refl}
+use Rattle.std.proofs.Common.{◌≡◌, ℕ, Bool, true, false, cond, not, ◌||◌, List, [], ◌∷◌, ◌++◌, Option, Some, None, refl}
 use Rattle.std.proofs.Common.{sym, ap, subst, ◌∙◌, arith, option_map}
 use Rattle.std.proofs.lemmas.Bool.{not-true}
 use Rattle.joint_model.specs.Laws.{has_look, is_look, wrote_nothing}
-use Rattle.joint_model.specs.Names.{Choice, Clear, Decides, Deed, Does, Effect, Finding, Item, Lookup, Part, Set}
-use Rattle.joint_model.specs.Names.{TellsNews, a_raw, a_request, variable_write}
+use Rattle.joint_model.specs.Names.{Choice, Clear, Decides, Deed, Does, Effect, Finding, Item, Judges, Lookup, Part}
+use Rattle.joint_model.specs.Names.{Set, Strike, TellsNews, a_raw, a_request, breakpoint_hits, variable_write}
 use Rattle.machine_model.specs.Lookups.{finished}
 use Rattle.machine_model.specs.Plans.{Result}
 use Rattle.machine_model.specs.Replying.{given_up}
@@ -17,7 +17,7 @@ use Rattle.machine_model.specs.declared.acts.Doing.{Doing}
 use Rattle.dap_messages.specs.declared.requests.Command.{Command}
 use Rattle.dap_messages.specs.declared.told.Failure.{Failure}
 use Rattle.machine_steps.proofs.Stepping.{IsAt, Moves, by_runs}
-use Rattle.machine_steps.proofs.Tables.{of_decided, of_told, told_alike}
+use Rattle.machine_steps.proofs.Tables.{of_decided, of_judged, of_told, told_alike}
 use Rattle.machine_steps.proofs.Testing.{IsTest, Passed, tested, whole}
 use Rattle.wish_sets.specs.Wishes.{WishChange, clears, next_change, sets}
 
@@ -28,14 +28,16 @@ abbrev acts_by : Choice → Bool
 acts_by (TellsNews below) = false
 acts_by _ = true
 
-abbrev writes_by : Lookup → Bool
-writes_by (variable_write thing name text) = true
-writes_by _ = false
+-- the look-up becomes a deed, or a decision
+abbrev acts_on : Lookup → Bool
+acts_on (variable_write thing name text) = true
+acts_on (breakpoint_hits strikes) = true
+acts_on _ = false
 
 abbrev acts : Part → Bool
 acts (Part.Sends deed) = true
 acts (Part.Unfolds choice) = acts_by choice
-acts (Part.Looks lookup) = writes_by lookup
+acts (Part.Looks lookup) = acts_on lookup
 acts _ = false
 
 -- behind a deed nothing is looked up
@@ -59,12 +61,14 @@ two : (a b : Bool) → cond a b false ≡ true → (a ≡ true) × (b ≡ true)
 two true b is = (refl, is)
 two false b is = absurd cc
 
-first_decided : (state : State) (item : Item) (rest : List Part) → not (has_look rest) ≡ true → looked_first rest ≡ true
-    → looked_first (decided state item ++ rest) ≡ true
-first_decided state item rest none is =
+first_decided : (state : State) (logged : List (List ℕ)) (stops : List Strike) (item : Item) (rest : List Part)
+    → not (has_look rest) ≡ true → looked_first rest ≡ true
+    → looked_first (decided state logged stops item ++ rest) ≡ true
+first_decided state logged stops item rest none is =
     of_decided (λ parts. looked_first (parts ++ rest) ≡ true) is is (resumes none is)
-    (λ stopped thrown halt. of_told (λ part. looked_first (part ∷ surplus stopped ++ rest) ≡ true)
-    (λ stopping. by_surplus stopped) (λ thread object. by_surplus stopped) halt) state item
+    (λ stopped thrown stops halt. of_told (λ part. looked_first (part ∷ surplus stopped ++ rest) ≡ true)
+    (λ stopping. by_surplus stopped) (λ thread object. by_surplus stopped) stops halt)
+    (λ text texts stops. resumes none is) state logged stops item
   where
     resumes : not (has_look rest) ≡ true → looked_first rest ≡ true
         → cond (not (has_look rest)) (looked_first rest) false ≡ true
@@ -78,9 +82,12 @@ first_chosen : (choice : Choice) (state : State) (hand : Hand) (rest : List Part
     → looked_first (Part.Unfolds choice ∷ rest) ≡ true → looked_first (chosen choice state hand ++ rest) ≡ true
 first_chosen (TellsNews below) state hand rest is =
     told_alike looked_first (λ news parts. refl) state.phase (news_of below state hand.item) rest ∙ is
-first_chosen Decides state hand rest is =
+first_chosen Judges state hand rest is =
     let both = two (not (has_look rest)) (looked_first rest) is in
-    first_decided state hand.item rest both.0 both.1
+    of_judged (λ parts. looked_first (parts ++ rest) ≡ true) both.1 (λ strikes. is) state hand.item
+first_chosen (Decides logged stops) state hand rest is =
+    let both = two (not (has_look rest)) (looked_first rest) is in
+    first_decided state logged stops hand.item rest both.0 both.1
 first_chosen _ state hand rest is = grind (arith, is)
 
 first_found : (lookup : Lookup) (result : Result Finding) (state : State) (rest : List Part)
@@ -97,12 +104,13 @@ first_test = record {
   gives_up = λ responds item. grind arith;
 }
 
--- what a choice becomes looks something up only where it is the decision, or what stands behind does
+-- what a choice becomes looks something up only where it judges or decides, or what stands behind does
 chosen_looks : (choice : Choice) (state : State) (hand : Hand) (rest : List Part)
     → has_look (chosen choice state hand ++ rest) ≡ true → has_look (Part.Unfolds choice ∷ rest) ≡ true
 chosen_looks (TellsNews below) state hand rest is =
     sym (told_alike has_look (λ news parts. refl) state.phase (news_of below state hand.item) rest) ∙ is
-chosen_looks Decides state hand rest is = refl
+chosen_looks Judges state hand rest is = refl
+chosen_looks (Decides logged stops) state hand rest is = refl
 chosen_looks _ state hand rest is = grind (arith, is)
 
 -- Deeds come last -----------------------------------------------------------------------------------------------------

@@ -7,8 +7,8 @@ use Rattle.jdwp_commands.specs.declared.asked.Asked.{Asked}
 use Rattle.jdwp_commands.specs.declared.asked.Asked.TheVariants as commands
 use Rattle.jdwp_commands.specs.declared.question.Question.TheVariants as questions
 use Rattle.joint_model.specs.Joints.{Joint, Packet, a_reply, some_events}
-use Rattle.joint_model.specs.Names.{Attached, Decides, Does, Lookup, Part, Resume, Suspend, Suspension, TargetCommand}
-use Rattle.joint_model.specs.Names.{a_question, all_threads, an_effect}
+use Rattle.joint_model.specs.Names.{Attached, Decides, Does, Judges, Lookup, Part, Resume, Suspend, Suspension}
+use Rattle.joint_model.specs.Names.{TargetCommand, a_question, all_threads, an_effect}
 use Rattle.joint_model.specs.Obeying.{Emits, MayRefuse, Replies, Runs, Serves}
 use Rattle.machine_model.specs.Facts.{fact_known, fact_of, is_of_class}
 use Rattle.machine_model.specs.Knowing.{held_in}
@@ -203,10 +203,11 @@ RepliesStay = (messages : List Message) (m : Machine) (w : World) (commands : Li
 
 -- A look-up while the target stands still -----------------------------------------------------------------------------
 
--- a look-up, or the decision on a composite, which may become one
+-- a look-up, or the judging of a composite or the decision on it, which may become one
 abbrev pub is_look : Part → Bool
 is_look (Part.Looks lookup) = true
-is_look (Part.Unfolds Decides) = true
+is_look (Part.Unfolds Judges) = true
+is_look (Part.Unfolds (Decides logged stops)) = true
 is_look _ = false
 
 -- a look-up is still to be done

@@ -89,9 +89,10 @@ pub fn length_need(alloc: Global, sight: Sight<'_>, id: u64) -> Result<Need<u32>
     }
 }
 
-/// The text of a string (JDWP, StringReference command set, Value).
+/// The text of the string of an id as the target's bytes, by what was replied. `NoMemory` comes where memory is refused
+/// (JDWP, StringReference command set, Value).
 #[tactic(auto, unfolding(machine_model::specs::Plans::need))]
-pub(crate) fn text_need(alloc: Global, sight: Sight<'_>, id: u64) -> Result<Need<Blob>, NoMemory>
+pub fn text_need(alloc: Global, sight: Sight<'_>, id: u64) -> Result<Need<Blob>, NoMemory>
     ensures { IfOk result (λ found. need_of found ≡ need (seen_by sight.entry) (text_plan id)) }
 {
     match must_hear(alloc, sight.asked, Question::StringValue(ObjectId(id)))? {
@@ -121,9 +122,11 @@ pub fn signature_need(
     }
 }
 
-/// The signature of an object's class.
+/// The signature of the class of the object of an id as the target's bytes, by what was learnt and replied. `NoMemory`
+/// comes where memory is refused (JDWP, ObjectReference command set, ReferenceType; JDWP, ReferenceType command set,
+/// Signature).
 #[tactic(auto, using(machine_model::proofs::PlanIds::need_chained))]
-pub(crate) fn type_need(alloc: Global, sight: Sight<'_>, id: u64) -> Result<Need<Blob>, NoMemory>
+pub fn type_need(alloc: Global, sight: Sight<'_>, id: u64) -> Result<Need<Blob>, NoMemory>
     ensures { IfOk result (λ found. need_of found ≡ need (seen_by sight.entry) (type_plan id)) }
 {
     match class_need(alloc, sight, id)? {

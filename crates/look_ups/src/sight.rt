@@ -1,7 +1,7 @@
 //! What an item sees of the target, and what it has heard.
 ghost use Rattle.std.specs.Prelude.{◌≡◌, Some, IfOk};
 ghost use Rattle.machine_model.specs.Facts.{fact_of};
-ghost use Rattle.machine_model.specs.Plans.{answer_in, fact_replied, found_from, may_hear, must_hear};
+ghost use Rattle.machine_model.specs.Plans.{answer_in, fact_replied, found_from, may_hear, must_hear, tried_of, try_hear};
 ghost use Rattle.look_ups.specs.Needs.{need_with};
 
 use crate::asked::Asked;
@@ -68,6 +68,22 @@ pub(crate) fn may_replied(
 ) -> Result<Need<&Replied>, NoMemory>
     ensures { IfOk result (λ found. need_with (λ replied. answer_in replied.now) found
         ≡ may_hear question (found_from 0 asked.now question)) }
+{
+    let key = QuestionKey::new(alloc, question)?;
+    match asked.find(&key) {
+        None => Ok(Need::Lacks {
+            first: Want::May(key.into_question()),
+            others: VecDeque::new(alloc),
+        }),
+        Some((_, replied)) => Ok(Need::Has(replied)),
+    }
+}
+
+/// The reply to a question that is tried: a look-up goes on by its answer, or by its error. `NoMemory` comes where memory
+/// is refused (JDWP, JDWP Packets, reply packet).
+pub fn tried(alloc: Global, asked: &Asked, question: Question) -> Result<Need<&Replied>, NoMemory>
+    ensures { IfOk result (λ found. need_with (λ replied. tried_of question replied.now) found
+        ≡ try_hear question (found_from 0 asked.now question)) }
 {
     let key = QuestionKey::new(alloc, question)?;
     match asked.find(&key) {

@@ -19,6 +19,7 @@ use Rattle.machine_model.specs.State.{Hand, Machine, State, is_gone}
 use Rattle.machine_model.specs.Stops.{surplus, told_part}
 use Rattle.machine_model.specs.Telling.{after_event, numbered_by}
 use Rattle.machine_steps.specs.Names.{Act, Attached, Choice, Classes, Command, Decides, Deed, Does, Effect, Event}
+use Rattle.machine_steps.specs.Names.{Judges, Strike, breakpoint_hits}
 use Rattle.machine_steps.specs.Names.{Failure, Finding, HaltCause, Item, Lines, Lookup, News, Next, Note, Outcome, Part}
 use Rattle.machine_steps.specs.Names.{Phase, Replied, Request, Resume, StepIn, StepOut, Stepped, Steps, TargetCommand}
 use Rattle.machine_steps.specs.Names.{TellsNews, ThreadId, Want, a_question, a_request, an_effect, came_to, has_stepped}
@@ -243,14 +244,16 @@ chosen_steps threads item (TellsNews below) state hand rest h = by_news state.ph
     by_news : (phase : Phase) (news : List News) → All (PartSteps threads item) (told_in phase news ++ rest)
     by_news Attached (one ∷ news) = (tt, by_news Attached news)
     by_news _ _ = h
-chosen_steps threads item Decides state hand rest h =
+chosen_steps threads item (Decides logged stops) state hand rest h =
     of_decided (λ (parts : List Part). All (PartSteps threads item) (parts ++ rest)) h (tt, h) (tt, h)
-    (λ again thrown halt. (tt, (tt, (tt, (by_cause halt.cause halt.thread, by_surplus again))))) state hand.item
+    (λ again thrown stops halt. (tt, (tt, (tt, (by_cause stops halt.cause halt.thread, by_surplus again)))))
+    (λ text texts stops. (tt, (tt, h))) state logged stops hand.item
   where
-    by_cause : (cause : HaltCause) (thread : ThreadId) → PartSteps threads item (told_part cause thread)
-    by_cause (came_to at) thread = tt
-    by_cause (threw one) thread = tt
-    by_cause has_stepped thread = tt
+    by_cause : (stops : List Strike) (cause : HaltCause) (thread : ThreadId)
+        → PartSteps threads item (told_part stops cause thread)
+    by_cause stops (came_to at) thread = tt
+    by_cause stops (threw one) thread = tt
+    by_cause stops has_stepped thread = tt
 
     by_surplus : (again : Bool) → All (PartSteps threads item) (surplus again ++ rest)
     by_surplus false = h
@@ -327,7 +330,9 @@ needs (part ∷ parts) = needs parts
 abbrev clears : Part → Bool
 clears (Part.Notes (Steps None)) = true
 clears (Part.Unfolds Stepped) = true
-clears (Part.Unfolds Decides) = true
+clears (Part.Unfolds Judges) = true
+clears (Part.Looks (breakpoint_hits strikes)) = true
+clears (Part.Unfolds (Decides logged stops)) = true
 clears _ = false
 
 abbrev steps_last : List Part → Bool
@@ -349,16 +354,18 @@ chosen_last : (choice : Choice) (state : State) (hand : Hand) (rest : List Part)
     → steps_last (Part.Unfolds choice ∷ rest) ≡ true → steps_last (chosen choice state hand ++ rest) ≡ true
 chosen_last (TellsNews below) state hand rest is =
     told_alike steps_last (λ news parts. refl) state.phase (news_of below state hand.item) rest ∙ is
-chosen_last Decides state hand rest is =
+chosen_last (Decides logged stops) state hand rest is =
     of_decided (λ (parts : List Part). steps_last (parts ++ rest) ≡ true) last last last
-    (λ again thrown halt. by_halt again halt.cause halt.thread) state hand.item
+    (λ again thrown stops halt. by_halt again stops halt.cause halt.thread) (λ text texts stops. is) state logged stops
+    hand.item
   where
     last : steps_last rest ≡ true
     last = second_holds (not (needs rest)) (steps_last rest) is
 
-    by_halt : (again : Bool) (cause : HaltCause) (thread : ThreadId)
-        → steps_last (Part.Notes (Steps None) ∷ Part.Updates ∷ told_part cause thread ∷ surplus again ++ rest) ≡ true
-    by_halt again cause thread = grind (arith, is)
+    by_halt : (again : Bool) (stops : List Strike) (cause : HaltCause) (thread : ThreadId)
+        → steps_last (Part.Notes (Steps None) ∷ Part.Updates ∷ told_part stops cause thread ∷ surplus again ++ rest)
+        ≡ true
+    by_halt again stops cause thread = grind (arith, is)
 chosen_last Stepped state hand rest is = by_code (refused_with hand.effect)
   where
     by_code : (code : Option ℕ) → steps_last (stepped_by code ++ rest) ≡ true
@@ -413,9 +420,9 @@ chosen_needs : (choice : Choice) (state : State) (hand : Hand) (rest : List Part
     → needs (chosen choice state hand ++ rest) ≡ true → needs (Part.Unfolds choice ∷ rest) ≡ true
 chosen_needs (TellsNews below) state hand rest is =
     sym (told_alike needs (λ news parts. refl) state.phase (news_of below state hand.item) rest) ∙ is
-chosen_needs Decides state hand rest is =
+chosen_needs (Decides logged stops) state hand rest is =
     of_decided (λ (parts : List Part). needs (parts ++ rest) ≡ true → needs rest ≡ true) (λ is. is) (λ is. is)
-    (λ is. is) (λ again thrown halt is. cc) state hand.item is
+    (λ is. is) (λ again thrown stops halt is. cc) (λ text texts stops is. is) state logged stops hand.item is
 chosen_needs Stepped state hand rest is = refl
 chosen_needs choice state hand rest is = grind (arith, is)
 

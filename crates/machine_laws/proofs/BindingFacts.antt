@@ -11,13 +11,13 @@ use Rattle.class_tables.specs.declared.loaded.Loaded.{Loaded}
 use Rattle.jdwp_commands.specs.declared.question.Question.TheVariants as questions
 use Rattle.jdwp_values.specs.declared.id.ClassId.{ClassId}
 use Rattle.machine_model.specs.Binding.{HasPlaces, IsBound}
-use Rattle.machine_model.specs.Classes.{bound_plan, class_plan, is_keyed, keyed_plan, known_plan, package_plan}
-use Rattle.machine_model.specs.Classes.{prepared_plan, source_plan, watched_plan}
+use Rattle.machine_model.specs.Classes.{bound_plan, class_plan, early_plan, is_keyed, keyed_plan, known_plan}
+use Rattle.machine_model.specs.Classes.{package_plan, prepared_plan, source_plan, watched_plan}
 use Rattle.machine_model.specs.Facts.{source_in}
 use Rattle.machine_model.specs.Plans.{Sight, after, asking, beside, each, has, joined, need}
 use Rattle.machine_model.specs.Replying.{knows_fact, learnt, with_heard}
 use Rattle.machine_model.specs.State.{is_some}
-use Rattle.machine_model.proofs.PlanIds.{after_like, need_chained, need_made}
+use Rattle.machine_model.proofs.PlanIds.{after_like, need_made}
 use Rattle.machine_steps.specs.Names.{Answer, Question, Want}
 use Rattle.machine_laws.proofs.BindingPlans.{is_fact}
 use Rattle.wish_sets.specs.Places.{key_by}
@@ -172,16 +172,13 @@ module _ (sight : Sight) (wanted : Wanted) (classes : List (ClassId × KnownClas
 
   same_source : (class : ClassId) (signature : List ℕ)
       → need sight (source_plan later class signature) ≡ need sight (source_plan wanted class signature)
+  unfolding need
   same_source class signature =
-      need_chained sight (asking source_in (Want.Fact (questions.SourceFile class)))
-      (λ source. keyed_plan (is_keyed later (key_by signature source)) later class signature)
-      ∙ after_like (need sight (asking source_in (Want.Fact (questions.SourceFile class)))) _ _
-      (λ source. ap (λ keyed. need sight (keyed_plan keyed later class signature))
-      (same_keyed (key_by signature source))
-      ∙ ap (need sight) (same_bound (is_keyed wanted (key_by signature source) || is_named wanted signature None)
-      (is_keyed wanted (key_by signature source)) class signature))
-      ∙ sym (need_chained sight (asking source_in (Want.Fact (questions.SourceFile class)))
-      (λ source. keyed_plan (is_keyed wanted (key_by signature source)) wanted class signature))
+      after_like (beside (need sight (asking source_in (Want.Fact (questions.SourceFile class))))
+      (need sight (early_plan (is_named wanted signature None) class))) _ _
+      (λ two. ap (λ keyed. need sight (keyed_plan keyed later class signature)) (same_keyed (key_by signature two.0))
+      ∙ ap (need sight) (same_bound (is_keyed wanted (key_by signature two.0) || is_named wanted signature None)
+      (is_keyed wanted (key_by signature two.0)) class signature))
 
   same_class_plan : (class : ClassId) (loaded : Option Loaded)
       → need sight (class_plan later class loaded) ≡ need sight (class_plan wanted class loaded)

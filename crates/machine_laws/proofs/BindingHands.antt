@@ -111,12 +111,12 @@ placed_chosen (TellsNews below) state hand rest none is =
     by_news Attached (one ∷ news) =
         rw (told_alike has_note (λ news parts. refl) Attached news rest ∙ none) (by_news Attached news)
     by_news _ _ = is
-placed_chosen Decides state hand rest none is =
+placed_chosen (Decides logged stops) state hand rest none is =
     of_decided (λ (parts : List Part). is_placed (parts ++ rest) ≡ true) is (rw none is) (rw none is)
-    (λ stopped thrown halt. let (no_note, are_placed) = placed_surplus stopped rest none is in
+    (λ stopped thrown stops halt. let (no_note, are_placed) = placed_surplus stopped rest none is in
     of_told (λ (part : Part). is_placed (Part.Notes (Throws thrown) ∷ Part.Notes (Steps None) ∷ Part.Updates ∷ part
-    ∷ surplus stopped ++ rest) ≡ true) (λ stopping. rw no_note are_placed) (λ thread object. rw no_note are_placed) halt)
-    state hand.item
+    ∷ surplus stopped ++ rest) ≡ true) (λ stopping. rw no_note are_placed) (λ thread object. rw no_note are_placed)
+    stops halt) (λ text texts stops. rw none is) state logged stops hand.item
 placed_chosen Stepped state hand rest none is = by_code (refused_with hand.effect)
   where
     by_code : (code : Option ℕ) → is_placed (stepped_by code ++ rest) ≡ true

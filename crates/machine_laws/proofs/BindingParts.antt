@@ -10,7 +10,7 @@ use Rattle.machine_model.specs.Binding.{AreAllBound, IsBound, sight_alone}
 use Rattle.machine_model.specs.Classes.{classes_plan, known_plan}
 use Rattle.machine_model.specs.Due.{lacked_by, newly_lacked, with_want, with_wants, is_listed, clear, load_of, asked_by}
 use Rattle.machine_model.specs.Due.{greeted_by, sized_by, way}
-use Rattle.machine_model.specs.Lookups.{classes_of, found_for, sight_of, threads_plan}
+use Rattle.machine_model.specs.Lookups.{classes_of, found_for, sight_of, threads_plan, hits_plan}
 use Rattle.machine_model.specs.Exceptions.{exception_plan, text_plan}
 use Rattle.machine_model.specs.Harmless.{is_harmless}
 use Rattle.machine_model.specs.Expressions.{value_plan}
@@ -18,7 +18,7 @@ use Rattle.machine_model.specs.Variables.{children_plan}
 use Rattle.machine_model.proofs.IdRows.{all_weak}
 use Rattle.machine_model.specs.Writing.{object_size, write_plan}
 use Rattle.machine_model.specs.Outcomes.{result_of}
-use Rattle.machine_model.specs.Plans.{Need, fails, has, lacks, made_with, need, question_of, after, asking, asks_for}
+use Rattle.machine_model.specs.Plans.{Need, fails, has, lacks, made_with, need, question_of, after, asks_for, beside}
 use Rattle.machine_model.specs.Plans.{Found, found_at, found_from, is_done, must_hear}
 use Rattle.machine_model.specs.Replying.{is_waiting, learnt}
 use Rattle.machine_model.specs.Requests.{Wishes}
@@ -29,6 +29,8 @@ use Rattle.machine_model.specs.Frames.{frames_plan}
 use Rattle.machine_model.proofs.PlanIds.{need_made}
 use Rattle.machine_model.proofs.KeyLaws.{is_one}
 use Rattle.machine_steps.specs.Names.{Event, Finding, Outcome, Part, Replied, Sent, Want, all_threads, class_facts}
+use Rattle.machine_steps.specs.Names.{Strike, breakpoint_hits}
+use Rattle.machine_laws.proofs.BindingPlans.{AllWants}
 use Rattle.machine_steps.specs.Names.{classes_found, Guard, Handshake, IdSizes, container_children, exception_info}
 use Rattle.machine_steps.specs.Names.{exception_text, expression_value, thread_frames, variable_write}
 use Rattle.machine_steps.proofs.Frameless.{asks_stack}
@@ -239,7 +241,7 @@ pub found_complete : (state : State) (hand : Hand) (found : Need Finding) → st
 found_complete state hand found listed learnt is done = (
   listed,
   by_need (need (sight_alone state.classes) (known_plan state.wishes.wanted (found_in state.classes)))
-      (need_holds state.classes (known_plan state.wishes.wanted (found_in state.classes))
+      (need_holds (sight_alone state.classes) (known_plan state.wishes.wanted (found_in state.classes))
       (known_wants state.wishes.wanted (found_in state.classes))) found same done,
 )
   where
@@ -270,13 +272,20 @@ unlisted_waits state hand unlisted none =
     ap (λ unlisted. is_done (need (sight_of state hand) (made_with classes_found
     (classes_plan unlisted state.wishes.wanted (found_in state.classes))))) unlisted
     ∙ ap is_done (need_made (sight_of state hand) classes_found
-    (asking (λ heard. []) (Want.Must questions.AllClasses)))
-    ∙ by_asked hand.asked 0 none
+    (classes_plan true state.wishes.wanted (found_in state.classes)))
+    ∙ by_found (found_from 0 hand.asked questions.AllClasses) (none_found hand.asked 0 none)
+    (need (sight_of state hand) (known_plan state.wishes.wanted (found_in state.classes)))
+    (need_holds (sight_of state hand) (known_plan state.wishes.wanted (found_in state.classes))
+    (known_wants state.wishes.wanted (found_in state.classes)))
   where
-    by_found : (found : Option Found) → found ≡ None
-        → is_done (after (after (must_hear questions.AllClasses found) (λ heard. has []))
-        (λ classes. has (classes_found classes))) ≡ false
-    by_found found is = grind (arith, is)
+    -- whatever is known of classes, it doesn't fail, and so the list is lacking
+    by_found : (found : Option Found) → found ≡ None → (known : Need (List ClassId)) → does_fail known ≡ false
+        → is_done (after (after (beside (after (must_hear questions.AllClasses found) (λ heard. has [])) known)
+        (λ (two : List ClassId × List ClassId). has two.0)) (λ classes. has (classes_found classes))) ≡ false
+    by_found None is (has classes) holds = refl
+    by_found None is (fails fault) holds = cc
+    by_found None is (lacks want others) holds = refl
+    by_found (Some found) is known holds = cc
 
     none_found : (asked : List Sent) (place : ℕ) → was_listed asked ≡ false
         → found_from place asked questions.AllClasses ≡ None
@@ -296,11 +305,6 @@ unlisted_waits state hand unlisted none =
         by_tests false key reply same true is again =
             absurd (let no : true ≡ false = sym (or_right _ (was_listed asked) is) ∙ none in cc)
         by_tests false key reply same false is again = again is
-
-    by_asked : (asked : List Sent) (place : ℕ) → was_listed asked ≡ false
-        → is_done (after (after (must_hear questions.AllClasses (found_from place asked questions.AllClasses))
-        (λ heard. has [])) (λ classes. has (classes_found classes))) ≡ false
-    by_asked asked place none = by_found (found_from place asked questions.AllClasses) (none_found asked place none)
 
 -- What is to be asked -------------------------------------------------------------------------------------------------
 
@@ -324,6 +328,11 @@ looks_apart (Part.Looks class_facts ∷ rest) = true
 looks_apart (Part.Looks (thread_frames thread start levels) ∷ rest) = true
 looks_apart parts = false
 
+-- the look-up of hits asks for nothing
+strikes_safe : (strikes : List Strike) → AllWants is_safe (hits_plan strikes)
+unfolding AllWants
+strikes_safe strikes = tt
+
 -- only the look-up of classes asks for a list of them, and only that of frames for frames
 pub lacked_safe : (state : State) (hand : Hand) (parts : List Part) → looks_apart parts ≡ false
     → All (λ want. is_safe want ≡ true) (lacked_by state hand parts)
@@ -343,6 +352,8 @@ lacked_safe state hand (Part.Looks (exception_text thread object) ∷ rest) none
     plan_lacks is_safe (sight_of state hand) (text_plan object.0) (thrown_safe object.0)
 lacked_safe state hand (Part.Looks (exception_info thrown) ∷ rest) none =
     plan_lacks is_safe (sight_of state hand) (exception_plan thrown) (exception_safe thrown)
+lacked_safe state hand (Part.Looks (breakpoint_hits strikes) ∷ rest) none =
+    plan_lacks is_safe (sight_of state hand) (hits_plan strikes) (strikes_safe strikes)
 lacked_safe state hand (Part.Looks class_facts ∷ rest) none = cc
 lacked_safe state hand (Part.Awaits guard ∷ rest) none = guards guard
   where

@@ -10,8 +10,9 @@ use Rattle.class_tables.specs.declared.loaded.Loaded.{Loaded}
 use Rattle.jdwp_commands.specs.declared.question.Question.TheVariants as questions
 use Rattle.jdwp_values.specs.declared.id.ClassId.{ClassId}
 use Rattle.machine_model.specs.Binding.{sight_alone}
-use Rattle.machine_model.specs.Classes.{bound_plan, class_plan, counts, is_keyed, keyed_plan, known_plan, lines_plan}
-use Rattle.machine_model.specs.Classes.{methods_plan, package_plan, prepared_plan, watched_plan}
+use Rattle.machine_model.specs.Classes.{bound_plan, class_plan, classes_plan, counts, early_plan, is_keyed, keyed_plan}
+use Rattle.machine_model.specs.Classes.{known_plan, lines_plan, methods_plan, package_plan, prepared_plan, source_plan}
+use Rattle.machine_model.specs.Classes.{watched_plan}
 use Rattle.machine_model.specs.Facts.{fact_known, methods_in, source_in}
 use Rattle.machine_model.specs.Plans.{Found, Need, Plan, Sight, after, asking, asks_for, beside, chained, each}
 use Rattle.machine_model.specs.Plans.{fact_heard, fails, found_at, found_from, gives, has, heard_of, joined, lacking}
@@ -103,6 +104,20 @@ keyed_wants : (keyed : Bool) (wanted : Wanted) (class : ClassId) (signature : Li
 keyed_wants keyed wanted class signature =
     bound_wants (keyed || is_named wanted signature None) keyed wanted class signature
 
+early_wants : (named : Bool) (class : ClassId) → AllWants wants_fact (early_plan named class)
+unfolding AllWants
+early_wants false class = tt
+early_wants true class = asks wants_fact methods_in (Want.Fact (questions.Methods class)) refl
+
+source_wants : (wanted : Wanted) (class : ClassId) (signature : List ℕ)
+    → AllWants wants_fact (source_plan wanted class signature)
+unfolding AllWants
+source_wants wanted class signature = (
+  asks wants_fact source_in (Want.Fact (questions.SourceFile class)) refl,
+  early_wants (is_named wanted signature None) class,
+  λ two. keyed_wants (is_keyed wanted (key_by signature two.0)) wanted class signature,
+)
+
 class_wants : (wanted : Wanted) (class : ClassId) (loaded : Option Loaded)
     → AllWants wants_fact (class_plan wanted class loaded)
 unfolding AllWants
@@ -111,10 +126,7 @@ class_wants wanted class (Some loaded) = by_prepared loaded.prepared
   where
     by_watched : (watched : Bool) → AllWants wants_fact (watched_plan watched wanted class loaded.signature)
     by_watched false = tt
-    by_watched true = chains wants_fact (asking source_in (Want.Fact (questions.SourceFile class)))
-        (λ source. keyed_plan (is_keyed wanted (key_by loaded.signature source)) wanted class loaded.signature)
-        (asks wants_fact source_in (Want.Fact (questions.SourceFile class)) refl)
-        (λ source. keyed_wants (is_keyed wanted (key_by loaded.signature source)) wanted class loaded.signature)
+    by_watched true = source_wants wanted class loaded.signature
 
     by_package : (path : Option (List ℕ)) → AllWants wants_fact (package_plan wanted class loaded.signature path)
     by_package None = tt
@@ -128,6 +140,34 @@ pub known_wants : (wanted : Wanted) (known : Lookups) → AllWants wants_fact (k
 known_wants wanted known = makes wants_fact joined (each (λ class. class_plan wanted class (known.loaded class)) known.order)
     (every wants_fact (λ class. class_plan wanted class (known.loaded class))
     (λ class. class_wants wanted class (known.loaded class)) known.order)
+
+-- what passes a test that is stricter
+all_weaker : {A : Type 0} (strict test : Want → Bool) → ((want : Want) → strict want ≡ true → test want ≡ true)
+    → (p : Plan A) → AllWants strict p → AllWants test p
+unfolding AllWants
+all_weaker strict test k (gives a) h = tt
+all_weaker strict test k (wants want rest) h =
+    (k want h.0, λ heard. all_weaker strict test k (rest heard) (h.1 heard))
+all_weaker strict test k (tries question rest) h =
+    (k (Want.May question) h.0, λ heard. all_weaker strict test k (rest heard) (h.1 heard))
+all_weaker strict test k (pairs p q rest) h = (
+  all_weaker strict test k p h.0,
+  all_weaker strict test k q h.1,
+  λ two. all_weaker strict test k (rest two) (h.2 two),
+)
+
+-- the look-up of classes wants a list of them, or facts
+pub classes_want : (test : Want → Bool) → test (Want.Must questions.AllClasses) ≡ true
+    → ((want : Want) → wants_fact want ≡ true → test want ≡ true) → (unlisted : Bool) (wanted : Wanted) (known : Lookups)
+    → AllWants test (classes_plan unlisted wanted known)
+unfolding AllWants
+classes_want test lists facts true wanted known = (
+  asks test {A = List ClassId} (λ heard. []) (Want.Must questions.AllClasses) lists,
+  all_weaker wants_fact test facts (known_plan wanted known) (known_wants wanted known),
+  λ two. tt,
+)
+classes_want test lists facts false wanted known =
+    all_weaker wants_fact test facts (known_plan wanted known) (known_wants wanted known)
 
 -- What is lacking -----------------------------------------------------------------------------------------------------
 
@@ -252,14 +292,16 @@ does_fail (has a) = false
 does_fail (fails fault) = true
 does_fail (lacks want others) = false
 
-heard_holds : (known : Known) (want : Want) → wants_fact want ≡ true
-    → does_fail (heard_of (sight_alone known) want) ≡ false
-heard_holds known (Want.Fact question) fact = by_known (fact_known (found_in known) question)
+heard_holds : (sight : Sight) (want : Want) → wants_fact want ≡ true → does_fail (heard_of sight want) ≡ false
+heard_holds sight (Want.Fact question) fact =
+    by_known (fact_known sight.classes question) (found_from 0 sight.asked question)
   where
-    by_known : (fact_now : Option (Option Answer)) → does_fail (fact_heard question fact_now None) ≡ false
-    by_known None = refl
-    by_known (Some heard) = refl
-heard_holds known _ fact = cc
+    by_known : (fact_now : Option (Option Answer)) (found : Option Found)
+        → does_fail (fact_heard question fact_now found) ≡ false
+    by_known None None = refl
+    by_known None (Some found) = refl
+    by_known (Some heard) found = refl
+heard_holds sight _ fact = cc
 
 after_holds : {A B : Type 0} (n : Need A) (f : A → Need B) → does_fail n ≡ false → ((a : A) → does_fail (f a) ≡ false)
     → does_fail (after n f) ≡ false
@@ -274,14 +316,12 @@ beside_holds (fails fault) k h l = cc
 beside_holds (lacks want others) (fails fault) h k = cc
 beside_holds _ _ h k = refl
 
-pub need_holds : {A : Type 0} (known : Known) (p : Plan A) → AllWants wants_fact p
-    → does_fail (need (sight_alone known) p) ≡ false
+pub need_holds : {A : Type 0} (sight : Sight) (p : Plan A) → AllWants wants_fact p → does_fail (need sight p) ≡ false
 unfolding need AllWants
-need_holds known (gives a) h = refl
-need_holds known (wants want rest) h = after_holds (heard_of (sight_alone known) want) _ (heard_holds known want h.0)
-    (λ heard. need_holds known (rest heard) (h.1 heard))
-need_holds known (tries question rest) h = cc
-need_holds known (pairs p q rest) h = after_holds (beside (need (sight_alone known) p) (need (sight_alone known) q)) _
-    (beside_holds (need (sight_alone known) p) (need (sight_alone known) q) (need_holds known p h.0)
-    (need_holds known q h.1))
-    (λ two. need_holds known (rest two) (h.2 two))
+need_holds sight (gives a) h = refl
+need_holds sight (wants want rest) h = after_holds (heard_of sight want) _ (heard_holds sight want h.0)
+    (λ heard. need_holds sight (rest heard) (h.1 heard))
+need_holds sight (tries question rest) h = cc
+need_holds sight (pairs p q rest) h = after_holds (beside (need sight p) (need sight q)) _
+    (beside_holds (need sight p) (need sight q) (need_holds sight p h.0) (need_holds sight q h.1))
+    (λ two. need_holds sight (rest two) (h.2 two))

@@ -16,6 +16,7 @@ use Rattle.machine_model.specs.Rows.{written_by, chosen, leaves, news_of, noted,
 use Rattle.machine_model.specs.State.{Hand, State, is_some}
 use Rattle.machine_model.specs.Stops.{hit_parts, surplus, told_part}
 use Rattle.machine_steps.specs.Names.{Finding, Outcome, Written, variable_write, write_found, Choice, Classes, Decides}
+use Rattle.machine_steps.specs.Names.{Judges, Strike}
 use Rattle.machine_steps.specs.Names.{Effect, Leaves, Lines, Lookup, Note, Part, Question, Replied, Sent, Set}
 use Rattle.machine_steps.specs.Names.{TellsNews, Want, an_effect, class_facts, Attached, Functions, Halt, Phase}
 use Rattle.machine_steps.specs.Names.{Stepped, Steps, StopsAt, Thrown}
@@ -28,7 +29,7 @@ use Rattle.machine_laws.proofs.BindingHands.{notes_list, queues_listing, was_lis
 use Rattle.machine_laws.proofs.BindingPlans.{IsLearnt, is_fact, is_listing}
 use Rattle.machine_steps.proofs.RequestLaws.{IsDue}
 use Rattle.machine_steps.proofs.RequestSteps.{is_deed, learnt_wishes}
-use Rattle.machine_steps.proofs.Tables.{decided_alike, of_decided, of_told, starts_updates, told_alike}
+use Rattle.machine_steps.proofs.Tables.{decided_alike, judged_alike, of_decided, of_told, starts_updates, told_alike}
 use Rattle.wish_sets.specs.Wanted.{Wanted, with_exceptions, with_known, with_step}
 use Rattle.wish_sets.specs.declared.wish.Wish.TheVariants as wishes
 use Rattle.machine_model.specs.Facts.{fact_known}
@@ -200,18 +201,19 @@ none_behind : (rest : List Part) → is_placed rest ≡ true → not (looks_ahea
 none_behind rest is none = needs_none rest is (not-true (looks_ahead rest) none)
 
 -- the parts of a hit need the watches to be set only where nothing is looked up behind them
-hit_needs : (stopped : Bool) (thrown : List Thrown) (halt : Halt) (rest : List Part) → is_placed rest ≡ true
-    → needs_watches (hit_parts stopped thrown halt ++ rest) ≡ true → needs_watches rest ≡ true
-hit_needs stopped thrown halt rest is needs =
+hit_needs : (stopped : Bool) (thrown : List Thrown) (stops : List Strike) (halt : Halt) (rest : List Part)
+    → is_placed rest ≡ true → needs_watches (hit_parts stopped thrown stops halt ++ rest) ≡ true
+    → needs_watches rest ≡ true
+hit_needs stopped thrown stops halt rest is needs =
     none_behind rest is (ap not (sym (ahead stopped halt)) ∙ needs)
   where
     by_surplus : (stopped : Bool) → looks_ahead (surplus stopped ++ rest) ≡ looks_ahead rest
     by_surplus stopped = grind arith
 
     ahead : (stopped : Bool) (halt : Halt)
-        → looks_ahead (told_part halt.cause halt.thread ∷ surplus stopped ++ rest) ≡ looks_ahead rest
+        → looks_ahead (told_part stops halt.cause halt.thread ∷ surplus stopped ++ rest) ≡ looks_ahead rest
     ahead stopped halt = of_told (λ (part : Part). looks_ahead (part ∷ surplus stopped ++ rest) ≡ looks_ahead rest)
-        (λ stopping. by_surplus stopped) (λ thread object. by_surplus stopped) halt
+        (λ stopping. by_surplus stopped) (λ thread object. by_surplus stopped) stops halt
 
 pub chosen_like : (choice : Choice) (state : State) (hand : Hand) (rest : List Part) → is_placed rest ≡ true
     → AreLike (chosen choice state hand ++ rest) rest
@@ -222,16 +224,23 @@ chosen_like (TellsNews below) state hand rest is =
       notes = told_alike has_note (λ news parts. refl) state.phase news rest;
       binds = told_alike binds_ahead (λ news parts. refl) state.phase news rest;
     }
-chosen_like Decides state hand rest is = record {
+chosen_like Judges state hand rest is = record {
+  ahead = judged_alike looks_ahead (λ strikes parts. refl) state hand.item rest;
+  needs = λ needs. sym (judged_alike needs_watches (λ strikes parts. refl) state hand.item rest) ∙ needs;
+  notes = judged_alike has_note (λ strikes parts. refl) state hand.item rest;
+  binds = judged_alike binds_ahead (λ strikes parts. refl) state hand.item rest;
+}
+chosen_like (Decides logged stops) state hand rest is = record {
   ahead = decided_alike looks_ahead (λ thrown parts. refl) (λ stopping parts. refl) (λ thread object parts. refl)
-      (λ parts. refl) (λ parts. refl) state hand.item rest;
+      (λ parts. refl) (λ parts. refl) (λ text texts strikes parts. refl) state logged stops hand.item rest;
   needs = of_decided (λ (parts : List Part). needs_watches (parts ++ rest) ≡ true → needs_watches rest ≡ true)
       (λ needs. needs) (λ needs. needs) (λ needs. needs)
-      (λ stopped thrown halt. hit_needs stopped thrown halt rest is) state hand.item;
+      (λ stopped thrown stops halt. hit_needs stopped thrown stops halt rest is) (λ text texts stops needs. needs) state
+      logged stops hand.item;
   notes = decided_alike has_note (λ thrown parts. refl) (λ stopping parts. refl) (λ thread object parts. refl)
-      (λ parts. refl) (λ parts. refl) state hand.item rest;
+      (λ parts. refl) (λ parts. refl) (λ text texts strikes parts. refl) state logged stops hand.item rest;
   binds = decided_alike binds_ahead (λ thrown parts. refl) (λ stopping parts. refl) (λ thread object parts. refl)
-      (λ parts. refl) (λ parts. refl) state hand.item rest;
+      (λ parts. refl) (λ parts. refl) (λ text texts strikes parts. refl) state logged stops hand.item rest;
 }
 chosen_like Stepped state hand rest is = by_code (refused_with hand.effect)
   where

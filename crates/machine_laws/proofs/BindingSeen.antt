@@ -14,7 +14,7 @@ use Rattle.jdwp_commands.specs.declared.question.Question.TheVariants as questio
 use Rattle.jdwp_values.specs.declared.class.Method.{Method}
 use Rattle.jdwp_values.specs.declared.id.ClassId.{ClassId}
 use Rattle.machine_model.specs.Binding.{IsBound, sight_alone}
-use Rattle.machine_model.specs.Classes.{bound_plan, class_plan, counts, is_keyed, keyed_plan, known_plan, lines_plan}
+use Rattle.machine_model.specs.Classes.{bound_plan, class_plan, counts, early_plan, is_keyed, known_plan, lines_plan}
 use Rattle.machine_model.specs.Classes.{methods_plan, package_plan, prepared_plan, source_plan, watched_plan}
 use Rattle.machine_model.specs.Facts.{fact_known, methods_in, source_in}
 use Rattle.machine_model.specs.Plans.{Need, Plan, after, asking, beside, chained, each, fact_heard, fails, has, joined}
@@ -64,6 +64,10 @@ beside_has Good Best _ _ h i = tt
 
 abbrev Any : {A : Type 0} → A → Type 0
 Any a = Unit {0}
+
+any_has : {A : Type 0} (n : Need A) → Has Any n
+any_has (has a) = tt
+any_has _ = tt
 
 and_any : {A : Type 0} (Good : A → Type 0) (n : Need A) → Has Good n → Has (λ (a : A). Unit {0} × Good a) n
 and_any Good (has a) h = (tt, h)
@@ -162,15 +166,22 @@ module _ (known : Known) where
           tt,
         )))
 
+    abbrev HasSource : Option (List ℕ) → Type 0
+    HasSource source = under same_class class known.sources ≡ Some source
+
     source_row : Row (All (IsSeen known wanted)) (source_plan wanted class loaded.signature)
+    unfolding need
     source_row =
-        chains (λ (source : Option (List ℕ)). under same_class class known.sources ≡ Some source)
-        (All (IsSeen known wanted)) (asking source_in (Want.Fact (questions.SourceFile class)))
-        (λ source. keyed_plan (is_keyed wanted (key_by loaded.signature source)) wanted class loaded.signature)
-        (asks_fact (λ (source : Option (List ℕ)). under same_class class known.sources ≡ Some source) source_in
-        (questions.SourceFile class) (λ heard is. source_heard (under same_class class known.sources) heard is))
-        (λ source is. bound_row
-        (is_keyed wanted (key_by loaded.signature source) || is_named wanted loaded.signature None) source is)
+        after_has (λ (two : Option (List ℕ) × List Method). HasSource two.0 × Any two.1) (All (IsSeen known wanted))
+        (beside (need (sight_alone known) (asking source_in (Want.Fact (questions.SourceFile class))))
+        (need (sight_alone known) (early_plan (is_named wanted loaded.signature None) class))) _
+        (beside_has HasSource Any (need (sight_alone known) (asking source_in (Want.Fact (questions.SourceFile class))))
+        (need (sight_alone known) (early_plan (is_named wanted loaded.signature None) class))
+        (asks_fact HasSource source_in (questions.SourceFile class)
+        (λ heard is. source_heard (under same_class class known.sources) heard is))
+        (any_has (need (sight_alone known) (early_plan (is_named wanted loaded.signature None) class))))
+        (λ two h. bound_row
+        (is_keyed wanted (key_by loaded.signature two.0) || is_named wanted loaded.signature None) two.0 h.0)
 
   class_row : (wanted : Wanted) (class : ClassId) (loaded : Option Loaded)
       → under same_class class known.loaded ≡ loaded → Row (All (IsSeen known wanted)) (class_plan wanted class loaded)

@@ -18,6 +18,7 @@ use Rattle.machine_model.specs.Stops.{surplus, told_part}
 use Rattle.machine_model.proofs.Bools.{both_hold, first_holds, second_holds}
 use Rattle.machine_laws.specs.Changing.{AsksFor, IsCause}
 use Rattle.machine_steps.specs.Names.{Act, Choice, Command, ConfigurationDone, Continue, Decides, Deed}
+use Rattle.machine_steps.specs.Names.{Judges, Strike, breakpoint_hits}
 use Rattle.machine_steps.specs.Names.{Disconnect, Dispose, Does, Exit, Failure, Finding, HaltCause, Item, Lookup}
 use Rattle.machine_steps.specs.Names.{Next, Part, Pause, Phase, Replied, Request, Resume, SetVariable, StepIn}
 use Rattle.machine_steps.specs.Names.{StepOut, Stepped, Suspend, Suspension, TargetCommand, TellsNews, ThreadId}
@@ -27,7 +28,7 @@ use Rattle.machine_laws.proofs.LeavingLaws.{farewells, first_in}
 use Rattle.machine_steps.proofs.ReferenceLaws.{due_request}
 use Rattle.machine_steps.proofs.RequestSteps.{is_deed}
 use Rattle.machine_steps.proofs.Stepping.{IsAt, Loses, Moves, by_moves, moved}
-use Rattle.machine_steps.proofs.Tables.{of_decided, told_alike}
+use Rattle.machine_steps.proofs.Tables.{of_decided, of_judged, told_alike}
 
 -- What an item is for -------------------------------------------------------------------------------------------------
 
@@ -100,7 +101,9 @@ may_do Exit aim responds = true
 abbrev may_stand : Purpose → Part → Bool → Bool
 may_stand aim (Part.Sends deed) responds = may_do deed aim responds
 may_stand aim (Part.Unfolds Stepped) responds = is_running aim
-may_stand aim (Part.Unfolds Decides) responds = is_undoing aim
+may_stand aim (Part.Unfolds Judges) responds = is_undoing aim
+may_stand aim (Part.Looks (breakpoint_hits strikes)) responds = is_undoing aim
+may_stand aim (Part.Unfolds (Decides logged stops)) responds = is_undoing aim
 may_stand aim (Part.Looks (variable_write thing name text)) responds = is_writing aim
 may_stand aim _ responds = true
 
@@ -141,13 +144,16 @@ chosen_fits aim Stepped state hand rest is = by_code (refused_with hand.effect)
   where
     by_code : (code : Option ℕ) → fits aim (stepped_by code ++ rest) ≡ true
     by_code code = grind (arith, is)
-chosen_fits aim Decides state hand rest is = let h = second_holds (is_undoing aim) (fits aim rest) is in
+chosen_fits aim Judges state hand rest is = let h = second_holds (is_undoing aim) (fits aim rest) is in
+    of_judged (λ (parts : List Part). fits aim (parts ++ rest) ≡ true) h (λ strikes. is) state hand.item
+chosen_fits aim (Decides logged stops) state hand rest is = let h = second_holds (is_undoing aim) (fits aim rest) is in
     of_decided (λ (parts : List Part). fits aim (parts ++ rest) ≡ true) h h is
-    (λ again thrown halt. by_halt again halt.cause halt.thread) state hand.item
+    (λ again thrown stops halt. by_halt again stops halt.cause halt.thread) (λ text texts stops. is) state logged stops
+    hand.item
   where
-    by_halt : (again : Bool) (cause : HaltCause) (thread : ThreadId)
-        → fits aim (told_part cause thread ∷ surplus again ++ rest) ≡ true
-    by_halt again cause thread = grind (arith, is)
+    by_halt : (again : Bool) (stops : List Strike) (cause : HaltCause) (thread : ThreadId)
+        → fits aim (told_part stops cause thread ∷ surplus again ++ rest) ≡ true
+    by_halt again stops cause thread = grind (arith, is)
 chosen_fits aim choice state hand rest is = grind (arith, is)
 
 gone_fits : (responds : Bool) (item : Item) → fits (purpose_of item) (gone_parts responds item) ≡ true

@@ -10,19 +10,20 @@ use Rattle.machine_model.specs.Rows.{chosen, failure_of, gone_parts, has_respons
 use Rattle.machine_model.specs.Rows.{refused_with, row_of, stepped_by, wanting}
 use Rattle.machine_model.specs.Runs.{Message, Run}
 use Rattle.machine_model.specs.State.{Hand, Machine, State, is_attached, is_empty}
-use Rattle.machine_model.specs.Stops.{decided, decided_by, events_in, has_start, hits_in, stop_among, surplus}
-use Rattle.machine_model.specs.Stops.{thrown_in, told_part}
+use Rattle.machine_model.specs.Stops.{decided, decided_by, events_in, has_start, hits_in, logged_first, stop_among}
+use Rattle.machine_model.specs.Stops.{surplus, thrown_in, told_part}
 use Rattle.machine_model.specs.Telling.{after_event, numbered_by, outcome_told}
 use Rattle.machine_model.proofs.Bools.{first_holds, second_holds}
 use Rattle.machine_laws.specs.ClientStops.{configured_by, configures}
 use Rattle.machine_steps.specs.Names.{Choice, Command, Configured, Decides, Deed, EntryHeld, Event, Failed, Failure}
+use Rattle.machine_steps.specs.Names.{Judges, Logged, Strike, breakpoint_hits}
 use Rattle.machine_steps.specs.Names.{Finding, Halt, HaltCause, Initialized, Item, Lookup, Note, Outcome, Part, Replied}
 use Rattle.machine_steps.specs.Names.{Request, Stepped, Success, TargetCommand, TellsNews, Terminated, ThreadId}
 use Rattle.machine_steps.specs.Names.{Thrown, Want, Written, a_question, a_request, a_response, a_stop, an_effect}
 use Rattle.machine_steps.specs.Names.{some_news}
 use Rattle.machine_steps.proofs.HoldingParts.{numbered_entry, same_entry}
 use Rattle.machine_steps.proofs.Stepping.{IsAt, Moves, Skips, by_moves}
-use Rattle.machine_steps.proofs.Tables.{told_alike}
+use Rattle.machine_steps.proofs.Tables.{of_judged, told_alike}
 
 -- What is left of an item ---------------------------------------------------------------------------------------------
 
@@ -49,6 +50,7 @@ abbrev entry_told : Event → Bool → Bool
 entry_told Initialized held = held
 entry_told (some_news news) held = held
 entry_told (a_stop stopping) held = held
+entry_told (Logged text) held = held
 entry_told Terminated held = false
 
 abbrev entry_noted : Note → Bool → Bool
@@ -70,8 +72,10 @@ may_note known held _ = true
 abbrev may_stand : Bool → Bool → Bool → Part → List Part → Bool
 may_stand aim known held (Part.Responds outcome) rest = cond aim (cond (succeeds outcome) known true) true
 may_stand aim known held (Part.Notes note) rest = may_note known held note
+may_stand aim known held (Part.Looks (breakpoint_hits strikes)) rest = cond aim false (is_empty rest)
 may_stand aim known held (Part.Looks lookup) rest = not aim
-may_stand aim known held (Part.Unfolds Decides) rest = cond aim false (is_empty rest)
+may_stand aim known held (Part.Unfolds Judges) rest = cond aim false (is_empty rest)
+may_stand aim known held (Part.Unfolds (Decides logged stops)) rest = cond aim false (is_empty rest)
 may_stand aim known held (Part.Unfolds Stepped) rest = not aim
 may_stand aim known held (Part.Unfolds (Written seen)) rest = not aim
 may_stand aim known held _ rest = true
@@ -103,25 +107,29 @@ found_fits : (aim known held : Bool) (lookup : Lookup) (result : Result Finding)
 found_fits aim known held lookup result state rest is = grind (arith, is)
 
 -- the entry is held only where that isn't written down
-decided_fits : (state : State) (item : Item)
-    → fits false state.configured state.entry (decided state item ++ []) ≡ true
-decided_fits state item =
-    by_stop (is_attached state.phase) state.stopped state.configured state.entry (has_start (events_in item))
-    (thrown_in state.wishes (events_in item)) (stop_among state.wishes (hits_in state.wishes (events_in item)))
+decided_fits : (state : State) (logged : List (List ℕ)) (stops : List Strike) (item : Item)
+    → fits false state.configured state.entry (decided state logged stops item ++ []) ≡ true
+decided_fits state logged stops item = by_phase (is_attached state.phase) logged
   where
     by_halt : (stopped known held : Bool) (cause : HaltCause) (thread : ThreadId)
-        → fits false known held (told_part cause thread ∷ surplus stopped ++ []) ≡ true
+        → fits false known held (told_part stops cause thread ∷ surplus stopped ++ []) ≡ true
     by_halt stopped known held cause thread = grind arith
 
-    by_stop : (attached stopped known held starts : Bool) (thrown : List Thrown) (stop : Option Halt)
+    by_stop : (stopped known held starts : Bool) (thrown : List Thrown) (stop : Option Halt)
         → fits false known held
-        (cond attached (decided_by stopped (cond known false (cond held false starts)) thrown stop) [] ++ []) ≡ true
-    by_stop false stopped known held starts thrown stop = refl
-    by_stop true stopped true held starts thrown None = refl
-    by_stop true stopped false true starts thrown None = refl
-    by_stop true stopped false false true thrown None = refl
-    by_stop true stopped false false false thrown None = refl
-    by_stop true stopped known held starts thrown (Some halt) = by_halt stopped known held halt.cause halt.thread
+        (decided_by stopped (cond known false (cond held false starts)) thrown stops stop ++ []) ≡ true
+    by_stop stopped true held starts thrown None = refl
+    by_stop stopped false true starts thrown None = refl
+    by_stop stopped false false true thrown None = refl
+    by_stop stopped false false false thrown None = refl
+    by_stop stopped known held starts thrown (Some halt) = by_halt stopped known held halt.cause halt.thread
+
+    by_phase : (attached : Bool) (logged : List (List ℕ)) → fits false state.configured state.entry
+        (cond attached (logged_first state logged stops (events_in item)) [] ++ []) ≡ true
+    by_phase false logged = refl
+    by_phase true [] = by_stop state.stopped state.configured state.entry (has_start (events_in item))
+        (thrown_in state.wishes (events_in item)) (stop_among stops (hits_in state.wishes (events_in item)))
+    by_phase true (text ∷ texts) = refl
 
 chosen_fits : (aim : Bool) (choice : Choice) (state : State) (hand : Hand) (rest : List Part)
     → fits aim state.configured state.entry (Part.Unfolds choice ∷ rest) ≡ true
@@ -129,9 +137,14 @@ chosen_fits : (aim : Bool) (choice : Choice) (state : State) (hand : Hand) (rest
 chosen_fits aim (TellsNews below) state hand rest is =
     told_alike (fits aim state.configured state.entry) (λ news parts. refl) state.phase (news_of below state hand.item)
     rest ∙ is
-chosen_fits false Decides state hand [] is = decided_fits state hand.item
-chosen_fits false Decides state hand (part ∷ rest) is = cc
-chosen_fits true Decides state hand rest is = cc
+chosen_fits false Judges state hand [] is = of_judged
+    (λ (parts : List Part). fits false state.configured state.entry (parts ++ []) ≡ true) refl (λ strikes. refl) state
+    hand.item
+chosen_fits false Judges state hand (part ∷ rest) is = cc
+chosen_fits true Judges state hand rest is = cc
+chosen_fits false (Decides logged stops) state hand [] is = decided_fits state logged stops hand.item
+chosen_fits false (Decides logged stops) state hand (part ∷ rest) is = cc
+chosen_fits true (Decides logged stops) state hand rest is = cc
 chosen_fits aim Stepped state hand rest is = by_code (refused_with hand.effect)
   where
     by_code : (code : Option ℕ) → fits aim state.configured state.entry (stepped_by code ++ rest) ≡ true

@@ -13,6 +13,7 @@ use Rattle.machine_model.specs.State.{is_some, knowing, left}
 use Rattle.machine_model.specs.Telling.{after_event, attached_from, numbered_by}
 use Rattle.machine_model.proofs.Bools.{first_holds, other_fails}
 use Rattle.machine_steps.specs.Names.{Choice, Command, Composite, Decides, Event, Failure, Guard, Handshake, IdSizes}
+use Rattle.machine_steps.specs.Names.{Judges}
 use Rattle.machine_steps.specs.Names.{Initialized, Item, Note, Outcome, Part, Phase, Question, Replied, TellsNews}
 use Rattle.machine_steps.specs.Names.{Terminated, a_composite, a_question, a_raw, a_request}
 use Rattle.machine_steps.proofs.HandshakeLaws.{IsBehind, both_queued, is_handshake}
@@ -22,7 +23,8 @@ use Rattle.machine_steps.proofs.QuietLaws.{attached_gone, waits_some}
 use Rattle.machine_steps.proofs.SizeLaws.{question_sizes}
 use Rattle.machine_steps.proofs.Standing.{asked_in}
 use Rattle.machine_steps.proofs.Stepping.{IsAt, Moves, Skips, by_runs}
-use Rattle.machine_steps.proofs.Tables.{chosen_is, decided_alike, finished_is, has_attach, plain_attach, told_alike}
+use Rattle.machine_steps.proofs.Tables.{chosen_is, decided_alike, finished_is, has_attach, judged_alike, plain_attach}
+use Rattle.machine_steps.proofs.Tables.{told_alike}
 use Rattle.machine_steps.proofs.Testing.{IsTest, Passed, same_noted, same_numbered, same_replied, tested, whole}
 use Rattle.std.proofs.lemmas.Bool.{or_right}
 use Rattle.machine_steps.proofs.RequestSteps.{parts_left}
@@ -53,9 +55,11 @@ chosen_greets : (choice : Choice) (state : State) (hand : Hand) (rest : List Par
     → greets_first (chosen choice state hand ++ rest) ≡ true
 chosen_greets (TellsNews below) state hand rest is =
     told_alike greets_first (λ news parts. refl) state.phase (news_of below state hand.item) rest ∙ is
-chosen_greets Decides state hand rest is =
+chosen_greets Judges state hand rest is =
+    judged_alike greets_first (λ strikes parts. refl) state hand.item rest ∙ is
+chosen_greets (Decides logged stops) state hand rest is =
     decided_alike greets_first (λ thrown parts. refl) (λ stopping parts. refl) (λ thread object parts. refl)
-    (λ parts. refl) (λ parts. refl) state hand.item rest ∙ is
+    (λ parts. refl) (λ parts. refl) (λ text texts strikes parts. refl) state logged stops hand.item rest ∙ is
 chosen_greets _ state hand rest is = grind (arith, is)
 
 greets_test : IsTest greets_to_attach

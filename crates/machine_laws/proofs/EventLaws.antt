@@ -18,6 +18,7 @@ use Rattle.machine_model.specs.Breakpoints.{verified_told}
 use Rattle.machine_model.specs.Knowing.{has_last}
 use Rattle.machine_model.proofs.Bools.{never}
 use Rattle.machine_steps.specs.Names.{Command, Event, Failed, Failure, Initialized, Item, News, Outcome, Part, Replied}
+use Rattle.machine_steps.specs.Names.{Logged}
 use Rattle.machine_steps.specs.Names.{Request, Success, TargetCommand, Terminated, Want, a_composite, a_question, a_raw}
 use Rattle.machine_steps.specs.Names.{a_request, a_stop, an_effect, an_event, entry_verified, some_news, target_end}
 use Rattle.machine_steps.specs.Names.{thread_changed}
@@ -43,6 +44,7 @@ attach_tail (Part.Responds (Failed failure) ∷ rest) = is_empty rest
 attach_tail (Part.Tells Initialized ∷ rest) = is_empty rest
 attach_tail (Part.Tells (some_news news) ∷ rest) = false
 attach_tail (Part.Tells (a_stop stopping) ∷ rest) = false
+attach_tail (Part.Tells (Logged text) ∷ rest) = false
 attach_tail (Part.Tells Terminated ∷ rest) = false
 attach_tail (Part.Sends deed ∷ rest) = false
 attach_tail (Part.Looks lookup ∷ rest) = false
@@ -336,6 +338,10 @@ event_on {messages} {m} {hand} {rest} (some_news news) h at same =
 event_on {messages} {m} {hand} {rest} (a_stop stopping) h at same =
     let none = none_owed (item_attaches hand.item) (has_response rest) (has_attach rest) (front_fits h.fits at) in
     same_told refl (sym none) (AreTold.stopped _
+    (same_told same (ap hand_owes at.in_hand ∙ ap owes_event at.parts ∙ none) h.told))
+event_on {messages} {m} {hand} {rest} (Logged text) h at same =
+    let none = none_owed (item_attaches hand.item) (has_response rest) (has_attach rest) (front_fits h.fits at) in
+    same_told refl (sym none) (AreTold.output text
     (same_told same (ap hand_owes at.in_hand ∙ ap owes_event at.parts ∙ none) h.told))
 event_on {messages} {m} {hand} {rest} Terminated h at same =
     let none = none_owed (item_attaches hand.item) (has_response rest) (has_attach rest) (front_fits h.fits at) in

@@ -18,6 +18,7 @@ use Rattle.machine_model.proofs.IdRows.{all_joined}
 use Rattle.machine_model.proofs.PlanIds.{AreKnown, IsAsked, IsWanted, OfClass, OfObject, OfThrown}
 use Rattle.machine_model.proofs.Bools.{both_hold}
 use Rattle.machine_steps.specs.Names.{Writes, Classes, Item, Lines, Part, Sent, Success, ThreadId, Want, a_composite}
+use Rattle.machine_steps.specs.Names.{Decides}
 use Rattle.machine_steps.specs.Names.{of_stop, Functions, Thrown, Throws, Dispose, Exit, Resume, Suspend, a_written}
 use Rattle.machine_steps.specs.Names.{Capabilities, Continued, Failed, Nothing, a_stop, breakpoint_list, Steps}
 use Rattle.machine_steps.specs.Names.{exception_text, some_news, thread_changed}
@@ -148,6 +149,7 @@ module _ (stopped : Bool) (messages : List Message) where
   part_free R (Part.Responds (Success body)) bare h = cc
   part_free R (Part.Responds (Failed failure)) bare h = tt
   part_free R (Part.Looks lookup) bare h = cc
+  part_free R (Part.Unfolds (Decides logged stops)) bare h = cc
   part_free R (Part.Sends (Writes write)) bare h = cc
   part_free R (Part.Sends Suspend) bare h = tt
   part_free R (Part.Sends (Resume suspension)) bare h = tt

@@ -17,7 +17,7 @@ use Rattle.machine_steps.specs.Names.{Finding, Part, Question, TargetCommand, Wa
 use Rattle.machine_steps.specs.Names.{classes_found}
 use Rattle.machine_laws.proofs.BindingHands.{looks_first}
 use Rattle.machine_laws.proofs.BindingParts.{lacked_meek}
-use Rattle.machine_laws.proofs.BindingPlans.{asks, is_fact, known_wants, makes, plan_lacks, wants_fact, wants_other}
+use Rattle.machine_laws.proofs.BindingPlans.{classes_want, is_fact, makes, plan_lacks, wants_fact, wants_other}
 use Rattle.machine_laws.proofs.HarmlessSteps.{effects_harmless}
 use Rattle.machine_steps.proofs.IdLaws.{last_or_not}
 use Rattle.machine_laws.proofs.QuestionLaws.{are_lacked}
@@ -48,12 +48,9 @@ lacking_in unlisted wanted state hand = lacking (need (sight_of state hand) (cla
 
 classes_harm : (unlisted : Bool) (wanted : Wanted) (state : State) (hand : Hand)
     → All Harms (lacking_in unlisted wanted state hand)
-classes_harm true wanted state hand = plan_lacks (λ want. is_harmless (question_of want)) (sight_of state hand)
-    (classes_shown true wanted state) (makes _ classes_found _ (asks _ _ (Want.Must questions.AllClasses) refl))
-classes_harm false wanted state hand = all_weak (λ want. wants_fact want ≡ true) Harms fact_harms
-    (lacking_in false wanted state hand)
-    (plan_lacks wants_fact (sight_of state hand) (classes_shown false wanted state)
-    (makes wants_fact classes_found _ (known_wants wanted (found_in state.classes))))
+classes_harm unlisted wanted state hand = plan_lacks (λ want. is_harmless (question_of want)) (sight_of state hand)
+    (classes_shown unlisted wanted state)
+    (makes _ classes_found _ (classes_want _ refl fact_harms unlisted wanted (found_in state.classes)))
 
 -- what a part lacks
 lacked_harm : (state : State) (hand : Hand) (parts : List Part) → All Harms (lacked_by state hand parts)

@@ -12,13 +12,14 @@ use Rattle.machine_model.specs.Runs.{Message, Run}
 use Rattle.machine_model.specs.State.{Hand, Machine, State}
 use Rattle.machine_model.proofs.IdRows.{all_joined}
 use Rattle.machine_steps.specs.Names.{Choice, Classes, Command, Decides, Effect, Failure, Item, Next, Note, Part, Set}
+use Rattle.machine_steps.specs.Names.{Judges}
 use Rattle.machine_steps.specs.Names.{StepIn, StepOut, Stepped, Steps, TargetCommand, TellsNews, ThreadId, a_raw, Lines}
 use Rattle.machine_steps.specs.Names.{a_request, an_effect}
 use Rattle.machine_laws.proofs.BindingFacts.{only_classes}
 use Rattle.machine_laws.proofs.BindingWatches.{or_false, without_mid}
 use Rattle.machine_steps.proofs.RequestSteps.{learnt_wishes, numbered_wishes, told_wishes}
 use Rattle.machine_steps.proofs.Stepping.{Loses, Moves, by_moves, with_said}
-use Rattle.machine_steps.proofs.Tables.{decided_alike, told_alike}
+use Rattle.machine_steps.proofs.Tables.{decided_alike, judged_alike, told_alike}
 use Rattle.machine_steps.proofs.Testing.{IsTest, Passed, passed_on, whole}
 use Rattle.machine_steps.proofs.WishLemmas.{new_set_due}
 use Rattle.wish_sets.proofs.WishLaws.{equal_is, wished_has}
@@ -83,9 +84,11 @@ chosen_threaded : (choice : Choice) (state : State) (hand : Hand) (rest : List P
     → are_threaded (chosen choice state hand ++ rest) ≡ true
 chosen_threaded (TellsNews below) state hand rest is =
     told_alike are_threaded (λ news parts. refl) state.phase (news_of below state hand.item) rest ∙ is
-chosen_threaded Decides state hand rest is =
+chosen_threaded Judges state hand rest is =
+    judged_alike are_threaded (λ strikes parts. refl) state hand.item rest ∙ is
+chosen_threaded (Decides logged stops) state hand rest is =
     decided_alike are_threaded (λ thrown parts. refl) (λ stopping parts. refl) (λ thread object parts. refl)
-    (λ parts. refl) (λ parts. refl) state hand.item rest ∙ is
+    (λ parts. refl) (λ parts. refl) (λ text texts strikes parts. refl) state logged stops hand.item rest ∙ is
 chosen_threaded Stepped state hand rest is = by_code (refused_with hand.effect)
   where
     by_code : (code : Option ℕ) → are_threaded (stepped_by code ++ rest) ≡ true

@@ -20,6 +20,7 @@ use Rattle.machine_model.specs.Telling.{after_event, attached_from, event_told, 
 use Rattle.machine_model.specs.Classes.{classes_in, with_listed}
 use Rattle.machine_model.specs.Plans.{answer_in}
 use Rattle.machine_steps.specs.Names.{Answer, Attached, Command, Composite, Effect, EntryHeld, Event, Fresh, Gone}
+use Rattle.machine_steps.specs.Names.{Logged}
 use Rattle.machine_steps.specs.Names.{Initialized, Item, NamedThread, Note, Options, Outcome, Part, Phase, Question}
 use Rattle.machine_steps.specs.Names.{Replied, Success, TargetCommand, Terminated, ThreadId, a_composite, a_question}
 use Rattle.machine_steps.specs.Names.{a_raw, a_request, a_stop, an_answer, an_effect, an_event, some_news, target_end}
@@ -58,6 +59,7 @@ use Rattle.machine_model.proofs.Bools.{never, other_fails}
 use Rattle.machine_steps.proofs.HoldingParts.{IsHolding, IsLost, holding, lost_flags, lost_held, numbered_entry}
 use Rattle.machine_steps.proofs.HoldingParts.{numbered_stop, same_entry, same_stop}
 use Rattle.machine_steps.proofs.ThreadIds.{replied_threads}
+use Rattle.machine_steps.proofs.HeldLaws.{logged_held}
 
 -- Replies -------------------------------------------------------------------------------------------------------------
 
@@ -163,6 +165,12 @@ event_may m hand (a_stop stopping) rest f h w at =
     by_gone : (gone held other : Bool) → cond (cond gone false true) other false ≡ true → held ≡ true
         → cond gone false held ≡ true
     by_gone gone held other is some = grind (arith, is, some)
+event_may m hand (Logged text) rest f h w at =
+    by_gone (is_gone m.state.phase) _ _ (whole free_once f at) (logged_held w at)
+  where
+    by_gone : (gone held other : Bool) → cond (cond gone false true) other false ≡ true → held ≡ true
+        → cond gone false held ≡ true
+    by_gone gone held other is some = grind (arith, is, some)
 event_may m hand Initialized rest f h w at =
     fresh_by (over_gone m.state.phase m.state.terminated) (is_fresh m.state.phase) _
     (marked_at m hand (Part.Tells Initialized) rest h at)
@@ -214,6 +222,9 @@ event_view_is m hand (some_news (thread_changed started thread)) rest f h w at =
 event_view_is m hand (a_stop stopping) rest f h w at =
     held_as m (left (knowing m (after_event (a_stop stopping) m.state)) hand rest) (stop_held w at).0
     (sym (dies_front at)) refl
+event_view_is m hand (Logged text) rest f h w at =
+    held_as m (left (knowing m (after_event (Logged text) m.state)) hand rest)
+    (sym (held_front at)) (sym (dies_front at)) refl
 event_view_is m hand Terminated rest f h w at =
     ap (λ (owed : ℕ). record (gone_view (view_of m)) { held = held_with false false owed; terminated = true })
     (free_owes false rest (tail (is_gone m.state.phase) (free_once true rest) (whole free_once f at)))

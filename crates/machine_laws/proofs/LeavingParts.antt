@@ -9,9 +9,10 @@ use Rattle.machine_model.specs.Rows.{request_parts}
 use Rattle.machine_model.specs.State.{Hand, State, is_attached, is_none}
 use Rattle.machine_model.proofs.Bools.{both_hold, first_holds, second_more}
 use Rattle.machine_steps.specs.Names.{Attach, Attached, Choice, Command, Decides, Deed, Disconnect, Dispose, Doing}
+use Rattle.machine_steps.specs.Names.{Judges}
 use Rattle.machine_steps.specs.Names.{Exit, Finding, Handshake, Item, Leaves, Lookup, News, Part, Phase, TellsNews}
 use Rattle.machine_steps.specs.Names.{a_request, an_effect}
-use Rattle.machine_steps.proofs.Tables.{of_decided, same}
+use Rattle.machine_steps.proofs.Tables.{of_decided, of_judged, same}
 
 -- What an item is for -------------------------------------------------------------------------------------------------
 
@@ -154,9 +155,12 @@ chosen_fits (TellsNews below) state hand aim responds ends leaves is =
         → fits_before aim responds ends leaves (told_in phase news) ≡ true
     by_news Attached (one ∷ news) = rw is (by_news Attached news)
     by_news _ _ = refl
-chosen_fits Decides state hand aim responds ends leaves is =
+chosen_fits Judges state hand aim responds ends leaves is =
+    of_judged (λ (parts : List Part). fits_before aim responds ends leaves parts ≡ true) refl
+    (λ strikes. grind (arith, is)) state hand.item
+chosen_fits (Decides logged stops) state hand aim responds ends leaves is =
     of_decided (λ (parts : List Part). fits_before aim responds ends leaves parts ≡ true) refl refl (rw is refl)
-    (λ stopped thrown halt. grind (arith, is)) state hand.item
+    (λ stopped thrown stops halt. grind (arith, is)) (λ text texts stops. grind (arith, is)) state logged stops hand.item
 chosen_fits _ state hand aim responds ends leaves is = grind (arith, is)
 
 -- and leaves the target only in an attached session
@@ -172,9 +176,12 @@ chosen_attached (TellsNews below) state hand =
     by_news : (attached : Bool) (phase : Phase) (news : List News)
         → sends_attached attached (told_in phase news) ≡ true
     by_news attached phase news = rw (none_sent phase news) refl
-chosen_attached Decides state hand =
+chosen_attached Judges state hand =
+    of_judged (λ (parts : List Part). sends_attached (is_attached state.phase) parts ≡ true) refl (λ strikes. refl) state
+    hand.item
+chosen_attached (Decides logged stops) state hand =
     of_decided (λ (parts : List Part). sends_attached (is_attached state.phase) parts ≡ true) refl refl refl
-    (λ stopped thrown halt. grind arith) state hand.item
+    (λ stopped thrown stops halt. grind arith) (λ text texts stops. refl) state logged stops hand.item
 chosen_attached _ state hand = grind arith
 
 -- where it does, if the choice was to

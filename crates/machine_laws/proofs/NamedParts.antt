@@ -15,13 +15,14 @@ use Rattle.machine_model.specs.Rows.{wanting}
 use Rattle.machine_model.specs.Runs.{Message, Run}
 use Rattle.machine_model.specs.State.{Hand, Machine, State}
 use Rattle.machine_steps.specs.Names.{Attached, Choice, Command, Decides, Failure, Finding, Item, Lookup, News}
+use Rattle.machine_steps.specs.Names.{Judges}
 use Rattle.machine_steps.specs.Names.{Next, Note, Part, Phase, Replied, Request, StackTrace, StepIn, StepOut, Stepped}
 use Rattle.machine_steps.specs.Names.{Steps, TargetCommand, TellsNews, ThreadId, Want, a_question, a_request, an_effect}
 use Rattle.machine_steps.specs.Names.{thread_frames}
 use Rattle.machine_laws.specs.NamedThreads.{IsStep}
 use Rattle.machine_steps.proofs.PartTests.{is_request, passes}
 use Rattle.machine_steps.proofs.Stepping.{IsAt, Moves, by_moves}
-use Rattle.machine_steps.proofs.Tables.{of_decided}
+use Rattle.machine_steps.proofs.Tables.{of_decided, of_judged}
 use Rattle.machine_laws.proofs.ThreadLaws.{Grows, grows_on, kept}
 use Rattle.wish_sets.specs.declared.wish.Depth.{Depth}
 use Rattle.wish_sets.specs.declared.wish.Depth.TheVariants.{Into, Out, Over}
@@ -234,9 +235,11 @@ chosen_plain (TellsNews below) state hand = by_news state.phase (news_of below s
     by_news : (phase : Phase) (news : List News) → passes names_none (told_in phase news) ≡ true
     by_news Attached (one ∷ news) = by_news Attached news
     by_news _ _ = refl
-chosen_plain Decides state hand =
+chosen_plain Judges state hand =
+    of_judged (λ (parts : List Part). passes names_none parts ≡ true) refl (λ strikes. refl) state hand.item
+chosen_plain (Decides logged stops) state hand =
     of_decided (λ (parts : List Part). passes names_none parts ≡ true) refl refl refl
-    (λ stopped thrown halt. grind arith) state hand.item
+    (λ stopped thrown stops halt. grind arith) (λ text texts stops. refl) state logged stops hand.item
 chosen_plain _ state hand = grind arith
 
 given_plain : (responds : Bool) (item : Item) → passes names_none (gone_parts responds item) ≡ true

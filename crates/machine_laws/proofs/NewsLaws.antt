@@ -29,6 +29,7 @@ use Rattle.machine_model.specs.Runs.{Allows, Message, Run, said}
 use Rattle.machine_model.specs.State.{Hand, Machine, State}
 use Rattle.machine_model.specs.Telling.{numbered_by}
 use Rattle.machine_steps.specs.Names.{Act, Attached, Choice, Command, Decides, Does, Effect, Failure, Finding}
+use Rattle.machine_steps.specs.Names.{Judges, Logged}
 use Rattle.machine_steps.specs.Names.{Initialized, Item, Lookup, News, Part, Phase, Question, Replied, TellsNews}
 use Rattle.machine_steps.specs.Names.{Terminated, a_composite, a_question, a_raw, a_request, a_stop, an_effect}
 use Rattle.machine_steps.specs.Names.{an_event, entry_verified, some_news, thread_changed, Stepped}
@@ -36,11 +37,11 @@ use Rattle.machine_steps.proofs.QuietLaws.{IsQuiet, near_flies, quiet_on}
 use Rattle.machine_steps.proofs.RequestLaws.{IsDue, settling, was_due}
 use Rattle.machine_steps.proofs.RequestSteps.{asked_left, flying_in, flying_of, learnt_wishes, parts_left, replied_left}
 use Rattle.machine_steps.proofs.Stepping.{IsAt, Moves, Skips, by_moves, by_runs, moved, Loses}
-use Rattle.machine_steps.proofs.Tables.{decided_alike, starts_updates}
+use Rattle.machine_steps.proofs.Tables.{decided_alike, starts_updates, judged_alike}
 use Rattle.wish_sets.proofs.OrderLaws.{sorted-fold}
 use Rattle.wish_sets.specs.Entries.{all_entries, is_verified, verified}
 use Rattle.wish_sets.specs.declared.entry.VerifiedEntry.{VerifiedEntry}
-use Rattle.machine_model.specs.Stops.{decided}
+use Rattle.machine_model.specs.Stops.{decided, judged}
 
 -- News that are left --------------------------------------------------------------------------------------------------
 
@@ -197,10 +198,13 @@ unfolded_news state below item _ rest none = none_told state.bound state.wishes 
 unfolded : (choice : Choice) (state : State) (hand : Hand) (rest : List Part) → has_told rest ≡ false
     → AreNews state.bound state.wishes (chosen choice state hand ++ rest)
 unfolded (TellsNews below) state hand rest none = unfolded_news state below hand.item state.phase rest none
-unfolded Decides state hand rest none =
-    none_told state.bound state.wishes (decided state hand.item ++ rest)
+unfolded Judges state hand rest none =
+    none_told state.bound state.wishes (judged state hand.item ++ rest)
+    (judged_alike has_told (λ strikes parts. refl) state hand.item rest ∙ none)
+unfolded (Decides logged stops) state hand rest none =
+    none_told state.bound state.wishes (decided state logged stops hand.item ++ rest)
     (decided_alike has_told (λ thrown parts. refl) (λ stopping parts. refl) (λ thread object parts. refl)
-    (λ parts. refl) (λ parts. refl) state hand.item rest ∙ none)
+    (λ parts. refl) (λ parts. refl) (λ text texts strikes parts. refl) state logged stops hand.item rest ∙ none)
 unfolded Stepped state hand rest none =
     none_told state.bound state.wishes (stepped_by (refused_with hand.effect) ++ rest)
     (by_code (refused_with hand.effect) ∙ none)
@@ -262,6 +266,8 @@ telling_on messages m next said r h
     (Moves.tells {rest = rest} {event = some_news (thread_changed started thread)} free at) =
     none_told m.state.bound m.state.wishes rest (at_front h at)
 telling_on messages m next said r h (Moves.tells {rest = rest} {event = a_stop stopping} free at) =
+    none_told m.state.bound m.state.wishes rest (at_front h at)
+telling_on messages m next said r h (Moves.tells {rest = rest} {event = Logged text} free at) =
     none_told m.state.bound m.state.wishes rest (at_front h at)
 telling_on messages m next said r h (Moves.tells {rest = rest} {event = Terminated} free at) =
     none_told m.state.bound m.state.wishes rest (at_front h at)

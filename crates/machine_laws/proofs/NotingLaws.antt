@@ -14,6 +14,7 @@ use Rattle.machine_model.specs.Runs.{Message, Run}
 use Rattle.machine_model.specs.State.{Hand, Machine, State, is_gone, knowing, left}
 use Rattle.machine_model.specs.Telling.{after_event, numbered_by, outcome_told, response_to}
 use Rattle.machine_steps.specs.Names.{Attached, Choice, ClientOptions, Command, Decides, Event, Failure, Finding}
+use Rattle.machine_steps.specs.Names.{Judges}
 use Rattle.machine_steps.specs.Names.{Initialized, Item, Lookup, News, Note, Options, Outcome, Part, Phase, Replied}
 use Rattle.machine_steps.specs.Names.{Request, TargetCommand, TellsNews, Terminated, Want, a_composite, a_question}
 use Rattle.machine_steps.specs.Names.{a_raw, a_request, a_response, an_effect, target_end}
@@ -21,7 +22,7 @@ use Rattle.machine_steps.proofs.QuietLaws.{attached_gone}
 use Rattle.machine_steps.proofs.ServedLaws.{IsLeft, left_on}
 use Rattle.machine_steps.proofs.Stepping.{IsAt, Loses, Moves, Skips, by_runs, with_said}
 use Rattle.machine_steps.proofs.Tables.{chosen_is, finished_is, has_joined, of_decided, once, once_in, responds_once}
-use Rattle.machine_steps.proofs.Tables.{row_is}
+use Rattle.machine_steps.proofs.Tables.{row_is, of_judged}
 use Rattle.machine_steps.proofs.Testing.{IsTest, Passed, same_noted, same_numbered, same_replied, tested, whole}
 use Rattle.std.proofs.lemmas.Bool.{not-true}
 
@@ -90,9 +91,11 @@ chosen_none (TellsNews below) state hand = by_news state.phase (news_of below st
     by_news : (phase : Phase) (news : List News) → no_options (told_in phase news) ≡ true
     by_news Attached (one ∷ news) = by_news Attached news
     by_news _ _ = refl
-chosen_none Decides state hand =
-    of_decided (λ (parts : List Part). no_options parts ≡ true) refl refl refl (λ stopped thrown halt. grind arith)
-    state hand.item
+chosen_none Judges state hand =
+    of_judged (λ (parts : List Part). no_options parts ≡ true) refl (λ strikes. refl) state hand.item
+chosen_none (Decides logged stops) state hand =
+    of_decided (λ (parts : List Part). no_options parts ≡ true) refl refl refl (λ stopped thrown stops halt. grind arith)
+    (λ text texts stops. refl) state logged stops hand.item
 chosen_none _ state hand = grind arith
 
 found_none : (lookup : Lookup) (result : Result Finding) (state : State)

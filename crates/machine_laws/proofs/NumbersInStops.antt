@@ -16,6 +16,7 @@ use Rattle.machine_model.specs.State.{Hand, Machine, State, numbers_over}
 use Rattle.machine_model.specs.Telling.{after_event, numbered_by}
 use Rattle.machine_model.proofs.Bools.{both_hold, first_holds, second_holds}
 use Rattle.machine_steps.specs.Names.{Body, Choice, Command, Deed, Decides, Evaluate, Event, Failed, Failure, Finding}
+use Rattle.machine_steps.specs.Names.{Judges, Logged}
 use Rattle.machine_steps.specs.Names.{Initialized, Item, Lookup, Outcome, Part, Phase, Replied, Resume, Scopes}
 use Rattle.machine_steps.specs.Names.{StackTrace, Stepped, Success, Suspend, TargetCommand, TellsNews, Terminated}
 use Rattle.machine_steps.specs.Names.{Variables, a_question, a_request, a_stop, a_value, all_threads, an_effect}
@@ -30,7 +31,7 @@ use Rattle.machine_steps.proofs.RequestSteps.{asked_left, parts_left, replied_le
 use Rattle.machine_steps.proofs.Stepping.{IsAt, Moves, by_runs}
 use Rattle.machine_laws.proofs.StepLaws.{noted_stop}
 use Rattle.machine_laws.proofs.StopParts.{are_bare, bare_parts, is_bare}
-use Rattle.machine_steps.proofs.Tables.{decided_alike, last_silent, silent_last, silent_test, told_alike}
+use Rattle.machine_steps.proofs.Tables.{decided_alike, last_silent, silent_last, silent_test, told_alike, judged_alike}
 use Rattle.machine_steps.proofs.Testing.{tested, whole}
 use Rattle.stop_refs.specs.Numbers.{InHand, and_then, container, frame, next_in, or_unknown, refused_in, stop_with}
 use Rattle.stop_refs.specs.Numbers.{thing_with}
@@ -179,9 +180,11 @@ chosen_plain : (choice : Choice) (state : State) (hand : Hand) (rest : List Part
     → passes is_plain (chosen choice state hand ++ rest) ≡ true
 chosen_plain (TellsNews below) state hand rest is =
     told_alike (passes is_plain) (λ news parts. refl) state.phase (news_of below state hand.item) rest ∙ is
-chosen_plain Decides state hand rest is =
+chosen_plain Judges state hand rest is =
+    judged_alike (passes is_plain) (λ strikes parts. refl) state hand.item rest ∙ is
+chosen_plain (Decides logged stops) state hand rest is =
     decided_alike (passes is_plain) (λ thrown parts. refl) (λ stopping parts. refl) (λ thread object parts. refl)
-    (λ parts. refl) (λ parts. refl) state hand.item rest ∙ is
+    (λ parts. refl) (λ parts. refl) (λ text texts strikes parts. refl) state logged stops hand.item rest ∙ is
 chosen_plain Stepped state hand rest is = by_code (refused_with hand.effect)
   where
     by_code : (code : Option ℕ) → passes is_plain (stepped_by code ++ rest) ≡ true
@@ -270,6 +273,7 @@ told_on {m = m} {rest = rest} Terminated r h at running = record {
   plain = silent_plain rest (silent_behind r at);
 }
 told_on Initialized r h at running = behind refl (at_front h at running)
+told_on (Logged text) r h at running = behind refl (at_front h at running)
 told_on (some_news news) r h at running = behind refl (at_front h at running)
 
 sent_on : {messages : List Message} {m : Machine} {hand : Hand} {rest : List Part} (deed : Deed) → Run messages m

@@ -15,6 +15,7 @@ use Rattle.machine_model.specs.Stops.{surplus, told_part}
 use Rattle.machine_model.specs.Telling.{body_told, numbered, outcome_told, response_to}
 use Rattle.machine_model.proofs.Bools.{first_fails, second_holds}
 use Rattle.machine_steps.specs.Names.{Attached, Choice, Command, Decides, Failed, Failure, Finding, HaltCause, Item}
+use Rattle.machine_steps.specs.Names.{Judges, Strike}
 use Rattle.machine_steps.specs.Names.{Leaves, Lookup, News, Outcome, Part, Phase, Replied, Request, StopCause, Stopping}
 use Rattle.machine_steps.specs.Names.{Success, TargetCommand, TellsNews, ThreadId, Want, a_question, a_request, a_stop}
 use Rattle.machine_steps.specs.Names.{Stepped, Written, an_effect, by_client}
@@ -22,7 +23,7 @@ use Rattle.machine_model.specs.Names.{Told}
 use Rattle.machine_laws.specs.Pausing.{IsToldLast}
 use Rattle.machine_steps.proofs.ServedLaws.{one_more}
 use Rattle.machine_steps.proofs.Stepping.{IsAt, Moves, Skips, by_runs, with_said}
-use Rattle.machine_steps.proofs.Tables.{of_decided}
+use Rattle.machine_steps.proofs.Tables.{of_decided, of_judged}
 use Rattle.machine_steps.proofs.Testing.{IsTest, tested, whole}
 
 -- Lists of parts ------------------------------------------------------------------------------------------------------
@@ -88,15 +89,19 @@ chosen_behind (TellsNews below) state hand rest h = by_news state.phase (news_of
     by_news Attached (one ∷ news) = let others = by_news Attached news in
         record { starts = refl; behind = rw (others.starts, others.behind) refl }
     by_news _ _ = h
-chosen_behind Decides state hand rest h =
+chosen_behind Judges state hand rest h =
+    of_judged (λ (parts : List Part). Behind (parts ++ rest)) h
+    (λ strikes. record { starts = refl; behind = rw (h.starts, h.behind) refl }) state hand.item
+chosen_behind (Decides logged stops) state hand rest h =
     of_decided (λ (parts : List Part). Behind (parts ++ rest)) h
     (record { starts = refl; behind = rw (h.starts, h.behind) refl })
     (record { starts = refl; behind = rw (h.starts, h.behind) refl })
-    (λ again thrown halt. record { starts = refl; behind = by_halt again halt.cause halt.thread }) state hand.item
+    (λ again thrown stops halt. record { starts = refl; behind = by_halt again stops halt.cause halt.thread })
+    (λ text texts stops. record { starts = refl; behind = rw (h.starts, h.behind) refl }) state logged stops hand.item
   where
-    by_halt : (again : Bool) (cause : HaltCause) (thread : ThreadId)
-        → are_behind (Part.Updates ∷ told_part cause thread ∷ surplus again ++ rest) ≡ true
-    by_halt again cause thread = grind (arith, h.starts, h.behind)
+    by_halt : (again : Bool) (stops : List Strike) (cause : HaltCause) (thread : ThreadId)
+        → are_behind (Part.Updates ∷ told_part stops cause thread ∷ surplus again ++ rest) ≡ true
+    by_halt again stops cause thread = grind (arith, h.starts, h.behind)
 chosen_behind Stepped state hand rest h = by_code (refused_with hand.effect)
   where
     by_code : (code : Option ℕ) → Behind (stepped_by code ++ rest)

@@ -21,6 +21,7 @@ use Rattle.machine_model.specs.Stops.{surplus, told_part}
 use Rattle.machine_model.specs.Telling.{after_event, is_among, number_among, numbered_by, reason_told, with_thread}
 use Rattle.wish_sets.specs.Entries.{entries_at}
 use Rattle.machine_steps.specs.Names.{Act, Attached, Choice, Command, Decides, Event, Finding, HaltCause, Hit}
+use Rattle.machine_steps.specs.Names.{Logged, Strike}
 use Rattle.machine_steps.specs.Names.{Initialized, Item, Lookup, NamedThread, News, Outcome, Part, Pause, Phase}
 use Rattle.machine_steps.specs.Names.{Replied, Request, StopCause, Success, TargetCommand, TellsNews}
 use Rattle.machine_steps.specs.Names.{Terminated, ThreadId, Want, a_question, a_request, a_stop, an_effect, an_event}
@@ -169,6 +170,7 @@ part_still threads more item (Part.Tells (a_stop stopping)) h = by_cause stoppin
     by_cause by_client h = still_names threads more item stopping.thread h
     by_cause _ h = tt
 part_still threads more item (Part.Tells Initialized) h = tt
+part_still threads more item (Part.Tells (Logged text)) h = tt
 part_still threads more item (Part.Tells (some_news news)) h = tt
 part_still threads more item (Part.Tells Terminated) h = tt
 part_still threads more item _ h = tt
@@ -184,6 +186,7 @@ parts_still threads more item (part ∷ parts) h =
 mute_names : (threads : List ThreadId) (item : Item) (part : Part) → is_mute part ≡ true → PartNames threads item part
 mute_names threads item (Part.Tells (a_stop stopping)) is = cc
 mute_names threads item (Part.Tells Initialized) is = tt
+mute_names threads item (Part.Tells (Logged text)) is = tt
 mute_names threads item (Part.Tells (some_news news)) is = tt
 mute_names threads item (Part.Tells Terminated) is = tt
 mute_names threads item _ is = tt
@@ -231,14 +234,16 @@ chosen_names threads item (TellsNews below) state hand rest h = by_news state.ph
     by_news : (phase : Phase) (news : List News) → All (PartNames threads item) (told_in phase news ++ rest)
     by_news Attached (one ∷ news) = (tt, by_news Attached news)
     by_news _ _ = h
-chosen_names threads item Decides state hand rest h =
+chosen_names threads item (Decides logged stops) state hand rest h =
     of_decided (λ (parts : List Part). All (PartNames threads item) (parts ++ rest)) h (tt, h) (tt, h)
-    (λ again thrown halt. (tt, (tt, (tt, (by_cause halt.cause halt.thread, by_surplus again))))) state hand.item
+    (λ again thrown stops halt. (tt, (tt, (tt, (by_cause stops halt.cause halt.thread, by_surplus again)))))
+    (λ text texts stops. (tt, (tt, h))) state logged stops hand.item
   where
-    by_cause : (cause : HaltCause) (thread : ThreadId) → PartNames threads item (told_part cause thread)
-    by_cause (came_to at) thread = tt
-    by_cause (threw one) thread = tt
-    by_cause has_stepped thread = tt
+    by_cause : (stops : List Strike) (cause : HaltCause) (thread : ThreadId)
+        → PartNames threads item (told_part stops cause thread)
+    by_cause stops (came_to at) thread = tt
+    by_cause stops (threw one) thread = tt
+    by_cause stops has_stepped thread = tt
 
     by_surplus : (again : Bool) → All (PartNames threads item) (surplus again ++ rest)
     by_surplus false = h
@@ -400,10 +405,9 @@ paused_at {messages} m next said stop r reason is (Moves.tells {hand} {event = a
     by_cause by_client same h =
         named_stop at.in_hand thread_is once hand.item refl
         (λ request item. told_last stopping request r at same item) h
-    by_cause (Hit place) same h =
-        let entries = entries_at m.state.wishes.wanted place in
+    by_cause (Hit entries) same h =
         no_hit (list_any (λ entry. entry.line) entries) (map (λ entry. entry.id) entries)
-        (map (λ entry. entry.id) entries) (other (Hit place) same)
+        (map (λ entry. entry.id) entries) (other (Hit entries) same)
     by_cause (by_exception text) same h =
         let no : reasons.Exception text ≡ reasons.Pause = other (by_exception text) same in cc
     by_cause by_step same h = let no : reasons.Step ≡ reasons.Pause = other by_step same in cc

@@ -32,6 +32,7 @@ use Rattle.machine_model.specs.State.{Hand, Machine, State, is_gone, is_some, kn
 use Rattle.machine_model.specs.Telling.{after_event, numbered_by, outcome_told, response_to}
 use Rattle.machine_model.proofs.Bools.{always, first_holds, second_holds}
 use Rattle.machine_steps.specs.Names.{Attach, Attached, Choice, Classes, Command, Decides, Effect, Event, Failed}
+use Rattle.machine_steps.specs.Names.{Judges, breakpoint_hits}
 use Rattle.machine_steps.specs.Names.{Failure, Finding, Functions, Initialize, Item, Leaves, Lines, ListedBreakpoint}
 use Rattle.machine_steps.specs.Names.{Lookup, Note, Options, Outcome, Part, Phase, Replied, Request, SetBreakpoints}
 use Rattle.machine_steps.specs.Names.{SetExceptionBreakpoints, SetFunctionBreakpoints, Stepped, StopsAt, Success}
@@ -47,7 +48,7 @@ use Rattle.machine_steps.proofs.RequestSteps.{near_before}
 use Rattle.machine_steps.proofs.ServedLaws.{IsLeft, Owes, left_on, one_more, owing, responded_left}
 use Rattle.machine_steps.proofs.Stepping.{IsAt, Loses, Moves, Skips, by_runs, with_said}
 use Rattle.machine_steps.proofs.Tables.{chosen_is, decided_alike, finished_is, has_joined, once, responds_once, row_is}
-use Rattle.machine_steps.proofs.Tables.{told_alike}
+use Rattle.machine_steps.proofs.Tables.{told_alike, judged_alike}
 use Rattle.machine_steps.proofs.Testing.{IsTest, passed, tested, whole}
 use Rattle.stop_refs.specs.Numbers.{InHand}
 use Rattle.wish_sets.specs.Wanted.{Wanted, with_class, with_known}
@@ -452,15 +453,22 @@ chosen_alike (TellsNews below) state hand rest s silent =
       answers = told_alike answer (λ one parts. refl) state.phase news rest;
       stays = λ is. told_alike opens (λ one parts. refl) state.phase news rest ∙ is;
     }
-chosen_alike Decides state hand rest s silent = record {
+chosen_alike Judges state hand rest s silent = record {
+  responds = judged_alike has_response (λ strikes parts. refl) state hand.item rest;
+  writes = judged_alike (λ (parts : List Part). notes_set parts s) (λ strikes parts. refl) state hand.item rest;
+  answers = judged_alike answer (λ strikes parts. refl) state hand.item rest;
+  stays = λ is. judged_alike opens (λ strikes parts. refl) state hand.item rest ∙ is;
+}
+chosen_alike (Decides logged stops) state hand rest s silent = record {
   responds = decided_alike has_response (λ thrown parts. refl) (λ stopping parts. refl) (λ thread object parts. refl)
-      (λ parts. refl) (λ parts. refl) state hand.item rest;
+      (λ parts. refl) (λ parts. refl) (λ text texts strikes parts. refl) state logged stops hand.item rest;
   writes = decided_alike (λ (parts : List Part). notes_set parts s) (λ thrown parts. refl) (λ stopping parts. refl)
-      (λ thread object parts. refl) (λ parts. refl) (λ parts. refl) state hand.item rest;
+      (λ thread object parts. refl) (λ parts. refl) (λ parts. refl) (λ text texts strikes parts. refl) state logged stops
+      hand.item rest;
   answers = decided_alike answer (λ thrown parts. refl) (λ stopping parts. refl) (λ thread object parts. refl)
-      (λ parts. refl) (λ parts. refl) state hand.item rest;
+      (λ parts. refl) (λ parts. refl) (λ text texts strikes parts. refl) state logged stops hand.item rest;
   stays = λ is. decided_alike opens (λ thrown parts. refl) (λ stopping parts. refl) (λ thread object parts. refl)
-      (λ parts. refl) (λ parts. refl) state hand.item rest ∙ is;
+      (λ parts. refl) (λ parts. refl) (λ text texts strikes parts. refl) state logged stops hand.item rest ∙ is;
 }
 chosen_alike (Leaves exits) state hand rest s silent = by_phase state.phase
   where
@@ -472,6 +480,8 @@ chosen_alike _ state hand rest s silent = cc
 found_alike : (lookup : Lookup) (result : Result Finding) (state : State) (rest : List Part) (s : Settings)
     → lookup_responds lookup ≡ false → IsAlike (finished lookup result state ++ rest) s rest s
 found_alike (exception_text thread object) result state rest s silent =
+    record { responds = refl; writes = refl; answers = refl; stays = λ is. is }
+found_alike (breakpoint_hits strikes) result state rest s silent =
     record { responds = refl; writes = refl; answers = refl; stays = λ is. is }
 found_alike class_facts result state rest s silent =
     record { responds = refl; writes = refl; answers = refl; stays = λ is. is }
@@ -544,6 +554,7 @@ found_lists (variable_write thing name text) result state rest is none = by_resu
     by_result (gave (no_value failure)) = refl
     by_result (gave _) = refl
 found_lists (exception_text thread object) result state rest is none = cc
+found_lists (breakpoint_hits strikes) result state rest is none = cc
 found_lists class_facts result state rest is none = cc
 found_lists lookup result state rest is none = plain_lists result
 
@@ -756,9 +767,11 @@ chosen_first : (choice : Choice) (state : State) (hand : Hand) (rest : List Part
     → lists_first (chosen choice state hand ++ rest) ≡ true
 chosen_first (TellsNews below) state hand rest is =
     told_alike lists_first (λ one parts. refl) state.phase (news_of below state hand.item) rest ∙ is
-chosen_first Decides state hand rest is =
+chosen_first Judges state hand rest is =
+    judged_alike lists_first (λ strikes parts. refl) state hand.item rest ∙ is
+chosen_first (Decides logged stops) state hand rest is =
     decided_alike lists_first (λ thrown parts. refl) (λ stopping parts. refl) (λ thread object parts. refl)
-    (λ parts. refl) (λ parts. refl) state hand.item rest ∙ is
+    (λ parts. refl) (λ parts. refl) (λ text texts strikes parts. refl) state logged stops hand.item rest ∙ is
 chosen_first _ state hand rest is = grind (arith, is)
 
 pub first_test : IsTest lists_before

@@ -20,6 +20,7 @@ use Rattle.machine_model.specs.Telling.{after_event, event_told, numbered_by, ou
 use Rattle.machine_model.proofs.Bools.{first_holds, second_holds}
 use Rattle.machine_laws.specs.ClientStops.{AreRead, IsShown, configured_by, stop_by_event, stop_by_outcome}
 use Rattle.machine_steps.specs.Names.{Body, Choice, Command, Continue, Decides, Event, Failure, Finding, HaltCause}
+use Rattle.machine_steps.specs.Names.{Judges, Strike, breakpoint_hits}
 use Rattle.machine_steps.specs.Names.{Item, Lookup, Next, Outcome, Part, Pause, Replied, Request, Resume}
 use Rattle.machine_steps.specs.Names.{StepIn, StepOut, Stepped, Steps, Success, Suspend, TargetCommand, TellsNews}
 use Rattle.machine_steps.specs.Names.{ThreadId, Throws, Thrown}
@@ -32,7 +33,7 @@ use Rattle.machine_steps.proofs.RequestSteps.{near_before}
 use Rattle.machine_steps.proofs.ServedLaws.{IsLeft, aside_left, left_on, responded_left}
 use Rattle.machine_steps.proofs.Stepping.{IsAt, Moves, Skips, by_runs, with_said}
 use Rattle.machine_laws.proofs.StepLaws.{noted_stop}
-use Rattle.machine_steps.proofs.Tables.{of_decided, once, responds_once, same, told_alike}
+use Rattle.machine_steps.proofs.Tables.{of_decided, once, responds_once, same, told_alike, of_judged}
 use Rattle.machine_steps.proofs.Testing.{tested, whole}
 use Rattle.std.proofs.lemmas.Bool.{not-true}
 
@@ -74,7 +75,9 @@ abbrev is_steady : Part → List Part → Bool
 is_steady (Part.Sends Suspend) rest = false
 is_steady (Part.Sends (Resume of_stop)) rest = false
 is_steady (Part.Unfolds Stepped) rest = false
-is_steady (Part.Unfolds Decides) rest = is_empty rest
+is_steady (Part.Unfolds Judges) rest = is_empty rest
+is_steady (Part.Looks (breakpoint_hits strikes)) rest = is_empty rest
+is_steady (Part.Unfolds (Decides logged stops)) rest = is_empty rest
 is_steady _ rest = true
 
 -- a part of an item that changes it
@@ -142,15 +145,20 @@ steady_fits true (TellsNews below) state hand rest is =
     told_alike (fits stays true true) (λ news parts. refl) state.phase (news_of below state hand.item) rest ∙ is
 steady_fits false (TellsNews below) state hand rest is =
     told_alike (fits stays false false) (λ news parts. refl) state.phase (news_of below state hand.item) rest ∙ is
-steady_fits known Decides state hand [] is =
+steady_fits known Judges state hand [] is =
+    of_judged (λ (parts : List Part). fits stays known known (parts ++ []) ≡ true) (grind arith) (λ strikes. grind arith)
+    state hand.item
+steady_fits known Judges state hand (part ∷ rest) is = grind (arith, is)
+steady_fits known (Decides logged stops) state hand [] is =
     of_decided (λ (parts : List Part). fits stays known known (parts ++ []) ≡ true) (grind arith) (grind arith)
-    (grind arith) (λ again thrown halt. by_halt again thrown halt.cause halt.thread) state hand.item
+    (grind arith) (λ again thrown stops halt. by_halt again thrown stops halt.cause halt.thread)
+    (λ text texts stops. grind arith) state logged stops hand.item
   where
-    by_halt : (again : Bool) (thrown : List Thrown) (cause : HaltCause) (thread : ThreadId)
+    by_halt : (again : Bool) (thrown : List Thrown) (stops : List Strike) (cause : HaltCause) (thread : ThreadId)
         → fits stays known known (Part.Notes (Throws thrown) ∷ Part.Notes (Steps None) ∷ Part.Updates
-        ∷ told_part cause thread ∷ surplus again ++ []) ≡ true
-    by_halt again thrown cause thread = grind arith
-steady_fits known Decides state hand (part ∷ rest) is = grind (arith, is)
+        ∷ told_part stops cause thread ∷ surplus again ++ []) ≡ true
+    by_halt again thrown stops cause thread = grind arith
+steady_fits known (Decides logged stops) state hand (part ∷ rest) is = grind (arith, is)
 steady_fits known choice state hand rest is = grind (arith, is)
 
 chosen_fits : (turn : Turning) (shown stopped : Bool) (choice : Choice) (state : State) (hand : Hand) (rest : List Part)

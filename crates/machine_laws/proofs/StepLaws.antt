@@ -21,6 +21,7 @@ use Rattle.machine_model.specs.Steps.{HasNoStep, IsStepAtRest}
 use Rattle.machine_model.specs.Stops.{surplus, told_part}
 use Rattle.machine_model.specs.Telling.{after_event}
 use Rattle.machine_steps.specs.Names.{Written, Act, Attached, Choice, Classes, Command, Decides, Effect, Event, Finding}
+use Rattle.machine_steps.specs.Names.{Judges, Strike, breakpoint_hits}
 use Rattle.machine_steps.specs.Names.{HaltCause, Item, Leaves, Lookup, Note, Part, Replied, Stepped, Steps}
 use Rattle.machine_steps.specs.Names.{TargetCommand, TellsNews, ThreadId, Want, a_question, a_raw, a_request, a_stop}
 use Rattle.machine_steps.specs.Names.{an_effect, an_event, Lines, entry_verified, some_news}
@@ -31,7 +32,7 @@ use Rattle.machine_steps.proofs.RequestLaws.{settles, settling}
 use Rattle.machine_steps.proofs.RequestSteps.{learnt_wishes, numbered_wishes}
 use Rattle.machine_steps.proofs.Stepping.{IsAt, Moves, Skips, by_moves, moved, Loses}
 use Rattle.machine_laws.proofs.SuspendLaws.{bound_at_stop}
-use Rattle.machine_steps.proofs.Tables.{free as free_test, free_once, of_decided, told_alike}
+use Rattle.machine_steps.proofs.Tables.{free as free_test, free_once, of_decided, told_alike, of_judged}
 use Rattle.machine_steps.proofs.Testing.{tested, whole}
 use Rattle.machine_steps.proofs.WishLemmas.{none_due_change}
 use Rattle.wish_sets.proofs.LeftLaws.{at_rest}
@@ -73,13 +74,15 @@ may_event _ steps = true
 
 abbrev may_choose : Choice → List Part → Bool
 may_choose (TellsNews below) rest = true
-may_choose Decides rest = is_empty rest
+may_choose Judges rest = is_empty rest
+may_choose (Decides logged stops) rest = is_empty rest
 may_choose Stepped rest = is_empty rest
 may_choose (Written seen) rest = true
 may_choose (Leaves exits) rest = true
 
 abbrev may_part : Bool → Part → List Part → Bool
 may_part steps (Part.Tells event) rest = may_event event steps
+may_part steps (Part.Looks (breakpoint_hits strikes)) rest = is_empty rest
 may_part steps (Part.Looks lookup) rest = cond (lookup_stops lookup) (not steps) true
 may_part steps (Part.Unfolds choice) rest = may_choose choice rest
 may_part steps _ rest = true
@@ -130,14 +133,18 @@ chosen_steps stopped steps Stepped state hand rest same is = by_rest rest (refus
     by_rest : (rest : List Part) (code : Option ℕ) → steps_well stopped steps (Part.Unfolds Stepped ∷ rest) ≡ true
         → steps_well stopped steps (stepped_by code ++ rest) ≡ true
     by_rest rest code is = grind (arith, is)
-chosen_steps stopped steps Decides state hand [] same is =
+chosen_steps stopped steps Judges state hand [] same is =
+    of_judged (λ (parts : List Part). steps_well stopped steps (parts ++ []) ≡ true) is (λ strikes. is) state hand.item
+chosen_steps stopped steps Judges state hand (part ∷ rest) same is = cc
+chosen_steps stopped steps (Decides logged stops) state hand [] same is =
     of_decided (λ (parts : List Part). steps_well stopped steps (parts ++ []) ≡ true) is is is
-    (λ again thrown halt. by_halt again halt.cause halt.thread) state hand.item
+    (λ again thrown stops halt. by_halt again stops halt.cause halt.thread) (λ text texts stops. is) state logged stops
+    hand.item
   where
-    by_halt : (again : Bool) (cause : HaltCause) (thread : ThreadId)
-        → steps_well stopped false (told_part cause thread ∷ surplus again ++ []) ≡ true
-    by_halt again cause thread = grind arith
-chosen_steps stopped steps Decides state hand (part ∷ rest) same is = cc
+    by_halt : (again : Bool) (stops : List Strike) (cause : HaltCause) (thread : ThreadId)
+        → steps_well stopped false (told_part stops cause thread ∷ surplus again ++ []) ≡ true
+    by_halt again stops cause thread = grind arith
+chosen_steps stopped steps (Decides logged stops) state hand (part ∷ rest) same is = cc
 chosen_steps stopped steps _ state hand rest same is = grind (arith, is)
 
 gone_steps : (steps responds : Bool) (item : Item) → steps_well false steps (gone_parts responds item) ≡ true

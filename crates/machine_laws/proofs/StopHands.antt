@@ -16,6 +16,7 @@ use Rattle.machine_model.specs.Telling.{after_event, numbered_by}
 use Rattle.machine_model.proofs.IdRows.{all_joined}
 use Rattle.machine_model.proofs.KeyLaws.{is_one}
 use Rattle.machine_steps.specs.Names.{Choice, Decides, Deed, Event, Finding, Initialized, Item, Lookup, Part, Phase}
+use Rattle.machine_steps.specs.Names.{Judges, Logged}
 use Rattle.machine_steps.specs.Names.{Question, Replied, Resume, Sent, Suspend, TellsNews, Want, a_question, an_effect}
 use Rattle.machine_steps.specs.Names.{of_stop, Stepped, some_news}
 use Rattle.machine_laws.proofs.BindingPlans.{asks}
@@ -23,7 +24,7 @@ use Rattle.machine_steps.proofs.Frameless.{asks_frames, asks_stack, no_frames}
 use Rattle.machine_steps.proofs.HoldingParts.{numbered_stop, same_stop}
 use Rattle.machine_steps.proofs.Standing.{asked_in, queue_in}
 use Rattle.machine_steps.proofs.Stepping.{IsAt, Moves, all_to_ask, by_runs, none_to_ask}
-use Rattle.machine_steps.proofs.Tables.{decided_alike, told_alike}
+use Rattle.machine_steps.proofs.Tables.{decided_alike, told_alike, judged_alike}
 use Rattle.machine_steps.proofs.Testing.{Passed, passed, same_noted, same_numbered, same_replied, tested}
 use Rattle.machine_laws.proofs.StopParts.{IsCalm, IsCalmSent, are_bare, bare_ends, bare_parts, bare_test, ends_ahead}
 use Rattle.machine_laws.proofs.StopParts.{ends_one, frames_ahead, lacked_calm, lacked_none, looks_frames, taken_calm}
@@ -93,9 +94,11 @@ chosen_ends : (choice : Choice) (state : State) (hand : Hand) (rest : List Part)
     → ends_ahead (chosen choice state hand ++ rest) ≡ true → ends_ahead (Part.Unfolds choice ∷ rest) ≡ true
 chosen_ends (TellsNews below) state hand rest is =
     sym (told_alike ends_ahead (λ news parts. refl) state.phase (news_of below state hand.item) rest) ∙ is
-chosen_ends Decides state hand rest is =
+chosen_ends Judges state hand rest is =
+    sym (judged_alike ends_ahead (λ strikes parts. refl) state hand.item rest) ∙ is
+chosen_ends (Decides logged stops) state hand rest is =
     sym (decided_alike ends_ahead (λ thrown parts. refl) (λ stopping parts. refl) (λ thread object parts. refl)
-    (λ parts. refl) (λ parts. refl) state hand.item rest) ∙ is
+    (λ parts. refl) (λ parts. refl) (λ text texts strikes parts. refl) state logged stops hand.item rest) ∙ is
 chosen_ends Stepped state hand rest is = refl
 chosen_ends _ state hand rest is = grind (arith, is)
 
@@ -103,9 +106,11 @@ chosen_looks : (choice : Choice) (state : State) (hand : Hand) (rest : List Part
     → frames_ahead (Part.Unfolds choice ∷ rest) ≡ false → frames_ahead (chosen choice state hand ++ rest) ≡ false
 chosen_looks (TellsNews below) state hand rest is =
     told_alike frames_ahead (λ news parts. refl) state.phase (news_of below state hand.item) rest ∙ is
-chosen_looks Decides state hand rest is =
+chosen_looks Judges state hand rest is =
+    judged_alike frames_ahead (λ strikes parts. refl) state hand.item rest ∙ is
+chosen_looks (Decides logged stops) state hand rest is =
     decided_alike frames_ahead (λ thrown parts. refl) (λ stopping parts. refl) (λ thread object parts. refl)
-    (λ parts. refl) (λ parts. refl) state hand.item rest ∙ is
+    (λ parts. refl) (λ parts. refl) (λ text texts strikes parts. refl) state logged stops hand.item rest ∙ is
 chosen_looks Stepped state hand rest is = by_code (refused_with hand.effect)
   where
     by_code : (code : Option ℕ) → frames_ahead (stepped_by code ++ rest) ≡ false
@@ -128,6 +133,7 @@ was_running Initialized state near running = (by_phase state.phase near, running
         → is_gone phase ≡ false
     by_phase phase near = grind (arith, near)
 was_running (some_news news) state near running = (near, running)
+was_running (Logged text) state near running = (near, running)
 was_running _ state near running = cc
 
 noted_running : (state now : State) → now.phase ≡ state.phase → now.stopped ≡ state.stopped

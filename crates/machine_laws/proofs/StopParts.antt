@@ -4,7 +4,6 @@ use Rattle.std.proofs.Common.{◌≡◌, Bool, true, false, cond, not, ◌&&◌,
 use Rattle.std.proofs.Common.{ℕ, Option}
 use Rattle.std.specs.List.{AllByRecursion as All}
 use Rattle.class_tables.specs.Lookups.{found_in}
-use Rattle.jdwp_commands.specs.declared.question.Question.TheVariants as questions
 use Rattle.machine_model.specs.Classes.{classes_plan}
 use Rattle.machine_model.specs.Due.{is_listed, lacked_by, with_want, with_wants}
 use Rattle.machine_model.specs.Lookups.{finished, sight_of}
@@ -15,15 +14,16 @@ use Rattle.machine_model.specs.Runs.{Message, Run}
 use Rattle.machine_model.specs.State.{Hand, Machine, State}
 use Rattle.machine_model.proofs.IdRows.{all_joined, all_weak}
 use Rattle.machine_steps.specs.Names.{Writes, a_written, variable_write, Body, Capabilities, Choice, Continued, Decides}
+use Rattle.machine_steps.specs.Names.{Judges}
 use Rattle.machine_steps.specs.Names.{Failed, Finding, Item, Lookup, Nothing, Outcome, Part, Question, Resume, Sent}
 use Rattle.machine_steps.specs.Names.{Success, TellsNews, Want, breakpoint_list, class_facts, classes_found, Stepped}
 use Rattle.machine_steps.specs.Names.{of_stop, thread_frames}
 use Rattle.machine_laws.proofs.BindingParts.{lacked_safe, looks_apart}
-use Rattle.machine_laws.proofs.BindingPlans.{asks, is_fact, known_wants, makes, plan_lacks, wants_fact}
+use Rattle.machine_laws.proofs.BindingPlans.{classes_want, is_fact, makes, plan_lacks, wants_fact}
 use Rattle.machine_steps.proofs.Frameless.{asks_stack}
 use Rattle.machine_laws.proofs.SafePlans.{is_meek, is_safe}
 use Rattle.machine_steps.proofs.Stepping.{IsAt}
-use Rattle.machine_steps.proofs.Tables.{decided_alike, told_alike}
+use Rattle.machine_steps.proofs.Tables.{decided_alike, judged_alike, told_alike}
 use Rattle.machine_steps.proofs.Testing.{IsTest, tested, whole}
 use Rattle.wish_sets.specs.Wanted.{Wanted}
 use Rattle.machine_model.proofs.Bools.{and_second}
@@ -60,7 +60,8 @@ is_bare (Part.Responds outcome) = is_bare_outcome outcome
 is_bare (Part.Looks lookup) = false
 is_bare (Part.Sends (Writes write)) = false
 is_bare (Part.Awaits guard) = false
-is_bare (Part.Unfolds Decides) = false
+is_bare (Part.Unfolds Judges) = false
+is_bare (Part.Unfolds (Decides logged stops)) = false
 is_bare _ = true
 
 abbrev pub are_bare : List Part → Bool
@@ -81,18 +82,22 @@ tail_bare part rest is = by_tests (ends_one part) (ends_ahead rest) (is_bare par
 begun_bare : (state : State) (item : Item) → bare_ends false (parts_of state item) ≡ true
 begun_bare state item = grind arith
 
+-- parts that don't end the stop
+none_ends : (parts : List Part) (ends : Bool) → ends_ahead parts ≡ ends → cond ends false true ≡ true
+    → bare_ends false parts ≡ true
+none_ends parts true same is = cc
+none_ends parts false same is = ap (λ (ends : Bool). cond ends (are_bare parts) true) same
+
 chosen_bare : (choice : Choice) (state : State) (hand : Hand) (rest : List Part)
     → bare_ends false (Part.Unfolds choice ∷ rest) ≡ true → bare_ends false (chosen choice state hand ++ rest) ≡ true
 chosen_bare (TellsNews below) state hand rest is =
     told_alike (bare_ends false) (λ news parts. refl) state.phase (news_of below state hand.item) rest ∙ is
-chosen_bare Decides state hand rest is = by_end (ends_ahead rest)
+chosen_bare Judges state hand rest is = none_ends (chosen Judges state hand ++ rest) (ends_ahead rest)
+    (judged_alike ends_ahead (λ strikes parts. refl) state hand.item rest) is
+chosen_bare (Decides logged stops) state hand rest is =
+    none_ends (chosen (Decides logged stops) state hand ++ rest) (ends_ahead rest)
     (decided_alike ends_ahead (λ thrown parts. refl) (λ stopping parts. refl) (λ thread object parts. refl)
-    (λ parts. refl) (λ parts. refl) state hand.item rest) is
-  where
-    by_end : (ends : Bool) → ends_ahead (chosen Decides state hand ++ rest) ≡ ends → cond ends false true ≡ true
-        → bare_ends false (chosen Decides state hand ++ rest) ≡ true
-    by_end true same is = cc
-    by_end false same is = ap (λ (ends : Bool). cond ends (are_bare (chosen Decides state hand ++ rest)) true) same
+    (λ parts. refl) (λ parts. refl) (λ text texts strikes parts. refl) state logged stops hand.item rest) is
 chosen_bare Stepped state hand rest is = by_code (refused_with hand.effect)
   where
     by_code : (code : Option ℕ) → bare_ends false (stepped_by code ++ rest) ≡ true
@@ -157,15 +162,12 @@ fact_calm _ is = cc
 classes_calm : (unlisted : Bool) (wanted : Wanted) (state : State) (hand : Hand)
     → All IsCalm (lacking (need (sight_of state hand)
     (made_with classes_found (classes_plan unlisted wanted (found_in state.classes)))))
-classes_calm true wanted state hand = all_weak (λ want. not (asks_stack (question_of want)) ≡ true) IsCalm
+classes_calm unlisted wanted state hand = all_weak (λ want. not (asks_stack (question_of want)) ≡ true) IsCalm
     (λ want is. not-true (asks_stack (question_of want)) is) _
     (plan_lacks (λ want. not (asks_stack (question_of want))) (sight_of state hand)
-    (made_with classes_found (classes_plan true wanted (found_in state.classes)))
-    (makes _ classes_found _ (asks _ _ (Want.Must questions.AllClasses) refl)))
-classes_calm false wanted state hand = all_weak (λ want. wants_fact want ≡ true) IsCalm fact_calm _
-    (plan_lacks wants_fact (sight_of state hand)
-    (made_with classes_found (classes_plan false wanted (found_in state.classes)))
-    (makes wants_fact classes_found _ (known_wants wanted (found_in state.classes))))
+    (made_with classes_found (classes_plan unlisted wanted (found_in state.classes)))
+    (makes _ classes_found _ (classes_want _ refl (λ want is. ap not (fact_calm want is)) unlisted wanted
+    (found_in state.classes))))
 
 -- what a part lacks that doesn't look up frames
 pub lacked_calm : (state : State) (hand : Hand) (parts : List Part) → frames_ahead parts ≡ false

@@ -13,9 +13,10 @@ use Rattle.machine_model.specs.Runs.{Allows, Message, Run, said}
 use Rattle.machine_model.specs.State.{Hand, Machine, State, is_attached, is_gone}
 use Rattle.machine_model.specs.Suspending.{IsBoundFirst, IsHeld}
 use Rattle.machine_model.specs.Telling.{after_event}
-use Rattle.machine_model.specs.Stops.{decided, surplus, told_part}
+use Rattle.machine_model.specs.Stops.{decided, surplus, told_part, judged}
 use Rattle.machine_model.specs.Pending.{bit}
 use Rattle.machine_steps.specs.Names.{Written, Act, Attached, Choice, Command, Configured, Decides, Deed, Does}
+use Rattle.machine_steps.specs.Names.{Judges, Strike, breakpoint_hits}
 use Rattle.machine_steps.specs.Names.{EntryHeld, Event, Failure, Finding, Item, Leaves, Lookup, Note, Part, Phase}
 use Rattle.machine_steps.specs.Names.{Resume, Stopping, Suspension, TellsNews, a_question, a_raw, a_request, a_stop}
 use Rattle.machine_steps.specs.Names.{an_effect, of_composite, HaltCause, Stepped, ThreadId, of_entry, of_stop}
@@ -26,7 +27,7 @@ use Rattle.machine_laws.proofs.KnowingLaws.{is_known}
 use Rattle.machine_steps.proofs.RequestLaws.{Settling, front_set, settles, settling}
 use Rattle.machine_steps.proofs.SizeLaws.{replied_parts, asked_parts}
 use Rattle.machine_steps.proofs.Stepping.{IsAt, Moves, by_runs, moved, Loses}
-use Rattle.machine_steps.proofs.Tables.{free, free_once, of_decided, told_alike}
+use Rattle.machine_steps.proofs.Tables.{free, free_once, of_decided, told_alike, of_judged}
 use Rattle.machine_steps.proofs.Testing.{IsTest, Passed, same_noted, same_numbered, same_replied, tested, whole}
 use Rattle.machine_laws.proofs.BindingHands.{binds_ahead}
 use Rattle.std.specs.Prelude.{◌+◌}
@@ -38,8 +39,10 @@ use Rattle.machine_steps.proofs.RequestSteps.{decides, is_choice, needs_set, par
 abbrev is_resume : Part → Bool
 is_resume (Part.Sends (Resume suspension)) = true
 is_resume (Part.Tells (a_stop stopping)) = true
+is_resume (Part.Looks (breakpoint_hits strikes)) = true
 is_resume (Part.Looks lookup) = lookup_stops lookup
-is_resume (Part.Unfolds Decides) = true
+is_resume (Part.Unfolds Judges) = true
+is_resume (Part.Unfolds (Decides logged stops)) = true
 is_resume (Part.Unfolds Stepped) = true
 is_resume _ = false
 
@@ -83,13 +86,18 @@ chosen_last : (choice : Choice) (state : State) (hand : Hand) (rest : List Part)
     → resume_last (Part.Unfolds choice ∷ rest) ≡ true → resume_last (chosen choice state hand ++ rest) ≡ true
 chosen_last (TellsNews below) state hand rest is =
     told_alike resume_last (λ news parts. refl) state.phase (news_of below state hand.item) rest ∙ is
-chosen_last Decides state hand rest is = let last = rest_last (Part.Unfolds Decides) rest is in
+chosen_last Judges state hand rest is =
+    of_judged (λ (parts : List Part). resume_last (parts ++ rest) ≡ true) (rest_last (Part.Unfolds Judges) rest is)
+    (λ strikes. is) state hand.item
+chosen_last (Decides logged stops) state hand rest is =
+    let last = rest_last (Part.Unfolds (Decides logged stops)) rest is in
     of_decided (λ (parts : List Part). resume_last (parts ++ rest) ≡ true) last last is
-    (λ stopped thrown halt. by_stop stopped halt.cause halt.thread) state hand.item
+    (λ stopped thrown stops halt. by_stop stopped stops halt.cause halt.thread) (λ text texts stops. is) state logged
+    stops hand.item
   where
-    by_stop : (stopped : Bool) (cause : HaltCause) (thread : ThreadId)
-        → resume_last (told_part cause thread ∷ surplus stopped ++ rest) ≡ true
-    by_stop stopped cause thread = grind (arith, is)
+    by_stop : (stopped : Bool) (stops : List Strike) (cause : HaltCause) (thread : ThreadId)
+        → resume_last (told_part stops cause thread ∷ surplus stopped ++ rest) ≡ true
+    by_stop stopped stops cause thread = grind (arith, is)
 chosen_last _ state hand rest is = grind (arith, is)
 
 last_test : IsTest ends_resumed
@@ -147,22 +155,22 @@ found_same : (lookup : Lookup) (result : Result Finding) (state : State) (rest :
     → has_resume (finished lookup result state ++ rest) ≡ has_resume (Part.Looks lookup ∷ rest)
 found_same lookup result state rest = grind arith
 
+there_anyway : (gone attached has : Bool) → cond gone true attached ≡ true
+    → cond gone true (cond has attached true) ≡ true
+there_anyway gone attached has is = grind (arith, is)
+
 chosen_resumed : (choice : Choice) (state : State) (hand : Hand) (rest : List Part)
     → resumes_attached state.phase (Part.Unfolds choice ∷ rest) ≡ true
     → resumes_attached state.phase (chosen choice state hand ++ rest) ≡ true
 chosen_resumed (TellsNews below) state hand rest is =
     told_alike (resumes_attached state.phase) (λ news parts. refl) state.phase (news_of below state hand.item) rest ∙ is
-chosen_resumed Decides state hand rest is =
-    there (is_gone state.phase) (is_attached state.phase) (has_resume (decided state hand.item ++ rest)) is
-  where
-    there : (gone attached has : Bool) → cond gone true attached ≡ true → cond gone true (cond has attached true) ≡ true
-    there gone attached has is = grind (arith, is)
+chosen_resumed Judges state hand rest is =
+    there_anyway (is_gone state.phase) (is_attached state.phase) (has_resume (judged state hand.item ++ rest)) is
+chosen_resumed (Decides logged stops) state hand rest is =
+    there_anyway (is_gone state.phase) (is_attached state.phase)
+    (has_resume (decided state logged stops hand.item ++ rest)) is
 chosen_resumed Stepped state hand rest is =
-    attached_there (is_gone state.phase) (is_attached state.phase) (has_resume (stepped_by (refused_with hand.effect) ++ rest)) is
-  where
-    attached_there : (gone attached has : Bool) → cond gone true attached ≡ true
-        → cond gone true (cond has attached true) ≡ true
-    attached_there gone attached has is = grind (arith, is)
+    there_anyway (is_gone state.phase) (is_attached state.phase) (has_resume (stepped_by (refused_with hand.effect) ++ rest)) is
 chosen_resumed (Written seen) state hand rest is = by_code (refused_with hand.effect)
   where
     by_code : (code : Option ℕ) → resumes_attached state.phase (written_by seen code ++ rest) ≡ true

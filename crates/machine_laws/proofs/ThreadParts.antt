@@ -19,6 +19,7 @@ use Rattle.machine_model.specs.Rows.{news_of, parts_by, parts_of, refused_with, 
 use Rattle.machine_model.specs.Rows.{written_by}
 use Rattle.machine_model.specs.State.{Hand, Machine, State}
 use Rattle.machine_steps.specs.Names.{Attached, Choice, Command, Composite, Decides, Failure, Finding, Fresh, Gone}
+use Rattle.machine_steps.specs.Names.{Judges}
 use Rattle.machine_steps.specs.Names.{Item}
 use Rattle.machine_steps.specs.Names.{Leaves, Lookup, News, Part, Phase, Replied, Stepped, TargetCommand, TellsNews}
 use Rattle.machine_steps.specs.Names.{Terminated, Want, Written, a_composite, a_question, a_raw, a_request, an_effect}
@@ -26,7 +27,7 @@ use Rattle.machine_steps.specs.Names.{entry_verified, some_news, target_end, thr
 use Rattle.machine_laws.specs.ThreadEvents.{Change, changes_by, changes_in}
 use Rattle.machine_steps.proofs.PartTests.{passes}
 use Rattle.machine_steps.proofs.Stepping.{Skips}
-use Rattle.machine_steps.proofs.Tables.{decided_alike}
+use Rattle.machine_steps.proofs.Tables.{decided_alike, judged_alike}
 
 -- What is left to tell ------------------------------------------------------------------------------------------------
 
@@ -219,9 +220,11 @@ tells_news _ = false
 pub chosen_left : (choice : Choice) (state : State) (hand : Hand) (rest : List Part) → tells_news choice ≡ false
     → left_in hand.item (chosen choice state hand ++ rest) ≡ left_in hand.item (Part.Unfolds choice ∷ rest)
 chosen_left (TellsNews below) state hand rest is = cc
-chosen_left Decides state hand rest is =
+chosen_left Judges state hand rest is =
+    judged_alike (left_in hand.item) (λ strikes parts. refl) state hand.item rest
+chosen_left (Decides logged stops) state hand rest is =
     decided_alike (left_in hand.item) (λ thrown parts. refl) (λ stopping parts. refl) (λ thread object parts. refl)
-    (λ parts. refl) (λ parts. refl) state hand.item rest
+    (λ parts. refl) (λ parts. refl) (λ text texts strikes parts. refl) state logged stops hand.item rest
 chosen_left Stepped state hand rest is = by_code (refused_with hand.effect)
   where
     by_code : (code : Option ℕ) → left_in hand.item (stepped_by code ++ rest) ≡ left_in hand.item rest

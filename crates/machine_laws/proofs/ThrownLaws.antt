@@ -29,11 +29,12 @@ use Rattle.machine_model.specs.Runs.{Allows, Message, Run, said}
 use Rattle.machine_model.specs.State.{Hand, Machine, State, is_attached, is_gone, knowing, left}
 use Rattle.machine_model.specs.Stopping.{HasHalted, IsHalt}
 use Rattle.machine_model.specs.Stops.{decided_by, events_in, hits_in, holds_entry, is_live, stop_among, surplus}
-use Rattle.machine_model.specs.Stops.{thrown_by, thrown_in, told_part}
+use Rattle.machine_model.specs.Stops.{thrown_by, thrown_in, told_part, logged_first}
 use Rattle.machine_model.specs.Telling.{after_event, event_told, numbered_by, outcome_told}
 use Rattle.machine_model.proofs.Bools.{first_holds, never, second_holds}
 use Rattle.machine_model.proofs.IdRows.{all_joined, all_weak}
 use Rattle.machine_steps.specs.Names.{Act, Choice, Command, Decides, Deed, Does, Event, ExceptionInfo, Failure}
+use Rattle.machine_steps.specs.Names.{Judges, Logged, Strike}
 use Rattle.machine_steps.specs.Names.{Finding, Halt, HaltCause, Item, Lookup, Note, Outcome, Part, Replied, Request}
 use Rattle.machine_steps.specs.Names.{Resume, Stepped, TargetCommand, TellsNews, Terminated, ThreadId, Throws, Thrown}
 use Rattle.machine_steps.specs.Names.{Initialized, Want, a_composite, a_question, a_request, a_response, a_stop}
@@ -51,7 +52,7 @@ use Rattle.machine_steps.proofs.Stepping.{IsAt, Loses, Moves, by_runs, moved, wi
 use Rattle.machine_laws.proofs.StopLaws.{one_before}
 use Rattle.machine_laws.proofs.StopTurns.{request_quiet, says_end}
 use Rattle.machine_laws.proofs.SuspendLaws.{bound_at_choice}
-use Rattle.machine_steps.proofs.Tables.{of_decided, told_alike}
+use Rattle.machine_steps.proofs.Tables.{of_decided, told_alike, judged_alike}
 use Rattle.machine_steps.proofs.Testing.{IsTest, gone_behind, tested, whole}
 use Rattle.machine_laws.proofs.ThreadLaws.{Grows, grows_on, kept}
 use Rattle.machine_laws.proofs.WrittenValues.{success_of}
@@ -202,14 +203,16 @@ gone_calm : (responds : Bool) (item : Item) → passes is_calm (gone_parts respo
 gone_calm responds item = grind arith
 
 abbrev is_decision : Choice → Bool
-is_decision Decides = true
+is_decision (Decides logged stops) = true
 is_decision _ = false
 
 other_choice : (choice : Choice) (state : State) (hand : Hand) (rest : List Part) → is_decision choice ≡ false
     → passes is_calm rest ≡ true → passes is_calm (chosen choice state hand ++ rest) ≡ true
 other_choice (TellsNews below) state hand rest other is =
     told_alike (passes is_calm) (λ news parts. refl) state.phase (news_of below state hand.item) rest ∙ is
-other_choice Decides state hand rest other is = cc
+other_choice Judges state hand rest other is =
+    judged_alike (passes is_calm) (λ strikes parts. refl) state hand.item rest ∙ is
+other_choice (Decides logged stops) state hand rest other is = cc
 other_choice Stepped state hand rest other is = by_code (refused_with hand.effect)
   where
     by_code : (code : Option ℕ) → passes is_calm (stepped_by code ++ rest) ≡ true
@@ -218,13 +221,14 @@ other_choice choice state hand rest other is = grind (arith, is)
 
 chosen_calm : (gone : Bool) (choice : Choice) (state : State) (hand : Hand) (rest : List Part)
     → passes is_calm rest ≡ true → calm_behind gone (chosen choice state hand ++ rest) ≡ true
-chosen_calm gone Decides state hand rest is =
+chosen_calm gone (Decides logged stops) state hand rest is =
     of_decided (λ (parts : List Part). calm_behind gone (parts ++ rest) ≡ true) (calm_tail gone rest is) is is
-    (λ again thrown halt. by_halt again halt.cause halt.thread) state hand.item
+    (λ again thrown stops halt. by_halt again stops halt.cause halt.thread) (λ text texts stops. is) state logged stops
+    hand.item
   where
-    by_halt : (again : Bool) (cause : HaltCause) (thread : ThreadId)
-        → passes is_calm (told_part cause thread ∷ surplus again ++ rest) ≡ true
-    by_halt again cause thread = grind (arith, is)
+    by_halt : (again : Bool) (stops : List Strike) (cause : HaltCause) (thread : ThreadId)
+        → passes is_calm (told_part stops cause thread ∷ surplus again ++ rest) ≡ true
+    by_halt again stops cause thread = grind (arith, is)
 chosen_calm gone choice state hand rest is =
     calm_tail gone (chosen choice state hand ++ rest) (other_choice choice state hand rest refl is)
 
@@ -286,13 +290,10 @@ at_front {messages} {m} h at =
     (subst (λ (held : Option Hand). AllThrown messages (front_thrown (parts_left held))) at.in_hand h.front)
 
 -- what is decided of a composite writes down what was thrown in it
-decided_front : {messages : List Message} {m : Machine} {hand : Hand} {rest : List Part} → Run messages m
-    → IsAt m hand (Part.Unfolds Decides) rest
-    → AllThrown messages (front_thrown (chosen Decides m.state hand ++ rest))
-decided_front {messages} {m} {hand} {rest} r at =
-    by_stop (is_attached m.state.phase) m.state.stopped (holds_entry m.state (events_in hand.item))
-    (thrown_in m.state.wishes (events_in hand.item))
-    (stop_among m.state.wishes (hits_in m.state.wishes (events_in hand.item))) (by_item hand.item refl)
+decided_front : {messages : List Message} {m : Machine} {hand : Hand} {rest : List Part} (logged : List (List ℕ))
+    (stops : List Strike) → Run messages m → IsAt m hand (Part.Unfolds (Decides logged stops)) rest
+    → AllThrown messages (front_thrown (chosen (Decides logged stops) m.state hand ++ rest))
+decided_front {messages} {m} {hand} {rest} logged stops r at = by_phase (is_attached m.state.phase) logged
   where
     by_item : (item : Item) → hand.item ≡ item → AllThrown messages (thrown_in m.state.wishes (events_in item))
     by_item (a_composite place composite) same =
@@ -318,17 +319,24 @@ decided_front {messages} {m} {hand} {rest} r at =
         (thrown_in m.state.wishes composite.events) (thrown_are m.state.wishes composite.events)
     by_item _ same = tt
 
-    by_stop : (attached stopped holds : Bool) (thrown : List Thrown) (stop : Option Halt) → AllThrown messages thrown
-        → AllThrown messages (front_thrown (cond attached (decided_by stopped holds thrown stop) [] ++ rest))
-    by_stop false stopped holds thrown stop h = none_thrown messages (front_thrown rest) (calm_rest r at)
-    by_stop true stopped true thrown None h = tt
-    by_stop true stopped false thrown None h = tt
-    by_stop true stopped holds thrown (Some halt) h = h
+    by_stop : (stopped holds : Bool) (thrown : List Thrown) (stop : Option Halt) → AllThrown messages thrown
+        → AllThrown messages (front_thrown (decided_by stopped holds thrown stops stop ++ rest))
+    by_stop stopped true thrown None h = tt
+    by_stop stopped false thrown None h = tt
+    by_stop stopped holds thrown (Some halt) h = h
+
+    by_phase : (attached : Bool) (logged : List (List ℕ)) → AllThrown messages (front_thrown
+        (cond attached (logged_first m.state logged stops (events_in hand.item)) [] ++ rest))
+    by_phase false logged = none_thrown messages (front_thrown rest) (calm_rest r at)
+    by_phase true [] = by_stop m.state.stopped (holds_entry m.state (events_in hand.item))
+        (thrown_in m.state.wishes (events_in hand.item))
+        (stop_among stops (hits_in m.state.wishes (events_in hand.item))) (by_item hand.item refl)
+    by_phase true (text ∷ texts) = tt
 
 chosen_front : {messages : List Message} {m : Machine} {hand : Hand} {rest : List Part} (choice : Choice)
     → Run messages m → IsAt m hand (Part.Unfolds choice) rest
     → AllThrown messages (front_thrown (chosen choice m.state hand ++ rest))
-chosen_front Decides r at = decided_front r at
+chosen_front (Decides logged stops) r at = decided_front logged stops r at
 chosen_front {messages} {m} {hand} {rest} choice r at =
     none_thrown messages (front_thrown (chosen choice m.state hand ++ rest))
     (calm_front (chosen choice m.state hand ++ rest)
@@ -345,6 +353,7 @@ told_onward : {messages : List Message} {m : Machine} {hand : Hand} {rest : List
     (left (knowing m (after_event event m.state)) hand rest)
 told_onward Terminated r at known = Onward.over refl (calm_rest r at)
 told_onward Initialized r at known = Onward.goes_on refl (behind r at known)
+told_onward (Logged text) r at known = Onward.goes_on refl (behind r at known)
 told_onward (some_news news) r at known = Onward.goes_on refl (behind r at known)
 told_onward (a_stop stopping) r at known = Onward.goes_on refl (behind r at known)
 

@@ -8,9 +8,10 @@ use Rattle.std.specs.Ordering.{nat_cmp, on}
 use Rattle.machine_model.specs.Breakpoints.{breakpoint_told, has_id, newly_verified, is_verified as is_told_verified}
 use Rattle.machine_model.specs.Breakpoints.{with_id, with_told}
 use Rattle.machine_model.specs.Lookups.{finished, plain_outcome, text_of, body_of, outcome_by, refusal, value_outcome}
-use Rattle.machine_model.specs.Lookups.{written_parts}
+use Rattle.machine_model.specs.Lookups.{written_parts, logged_of, stops_of}
 use Rattle.machine_model.specs.References.{has_room, things_of}
 use Rattle.machine_steps.specs.Names.{Seen, Written, variable_write, write_found, Attached, Choice, Clear, Decides}
+use Rattle.machine_steps.specs.Names.{Judges, Logged, Strike, breakpoint_hits}
 use Rattle.machine_steps.specs.Names.{Effect, Failed, Finding, Fresh, Gone, Initialized, Item, Leaves, ListedBreakpoint}
 use Rattle.machine_steps.specs.Names.{Lookup, Nothing, Outcome, Part, Phase, Question, Replied, Set, Success}
 use Rattle.machine_steps.specs.Names.{TargetCommand, TellsNews, Terminated, Want, a_question, a_stop, an_answer}
@@ -38,14 +39,14 @@ use Rattle.machine_steps.proofs.RequestLaws.{IsDue, IsSet, front_set, settles, s
 use Rattle.machine_steps.proofs.RequestSteps.{asked_left, flying_in, flying_of, learnt_wishes, near_before, is_choice}
 use Rattle.machine_steps.proofs.RequestSteps.{needs_set, parts_left, replied_left}
 use Rattle.machine_steps.proofs.Stepping.{IsAt, Moves, Skips, by_runs}
-use Rattle.machine_steps.proofs.Tables.{decided_alike, starts_updates}
+use Rattle.machine_steps.proofs.Tables.{decided_alike, starts_updates, judged_alike}
 use Rattle.machine_steps.proofs.Testing.{same_replied}
 use Rattle.wish_sets.proofs.OrderLaws.{each-insert}
 use Rattle.wish_sets.specs.Entries.{all_entries, is_verified, state_of, verified}
 use Rattle.wish_sets.specs.Wishes.{cleared, installed_as, is_installed, refused_now}
 use Rattle.wish_sets.specs.declared.entry.EntryState.TheVariants.{Verified}
 use Rattle.wish_sets.specs.declared.entry.VerifiedEntry.{VerifiedEntry}
-use Rattle.machine_model.specs.Stops.{decided}
+use Rattle.machine_model.specs.Stops.{decided, judged}
 use Rattle.machine_model.proofs.Bools.{both_hold}
 use Rattle.machine_laws.proofs.VerifiedLaws.{has_now, has_still, is_listed, is_placed, is_shown, placed_listed}
 use Rattle.machine_laws.proofs.VerifiedLaws.{stands_verified, verified_news}
@@ -208,18 +209,30 @@ module _ (id : ℕ) where
         ∙ c.told is placed;
   }
 
-  decided_covers : {asked : Bool} (state : State) (item : Item) (rest : List Part) → is_bare id state.wishes ≡ false
-      → Covers id asked state.wishes state.phase state.next_entry state.bound (Part.Unfolds Decides ∷ rest)
-      → Covers id asked state.wishes state.phase state.next_entry state.bound (decided state item ++ rest)
-  decided_covers {asked} state item rest calm c =
-      becomes Decides (decided state item ++ rest) rest calm refl
+  judged_covers : {asked : Bool} (state : State) (item : Item) (rest : List Part) → is_bare id state.wishes ≡ false
+      → Covers id asked state.wishes state.phase state.next_entry state.bound (Part.Unfolds Judges ∷ rest)
+      → Covers id asked state.wishes state.phase state.next_entry state.bound (judged state item ++ rest)
+  judged_covers {asked} state item rest calm c =
+      becomes Judges (judged state item ++ rest) rest calm refl
+      (judged_alike (will_tell id asked) (λ strikes parts. refl) state item rest)
+      (judged_alike (covers id asked false) (λ strikes parts. refl) state item rest)
+      (none_noted id asked state.phase state.next_entry (judged state item ++ rest)
+      (judged_alike has_lists (λ strikes parts. refl) state item rest ∙ c.noted)) c
+
+  decided_covers : {asked : Bool} (logged : List (List ℕ)) (stops : List Strike) (state : State) (item : Item)
+      (rest : List Part) → is_bare id state.wishes ≡ false → Covers id asked state.wishes state.phase state.next_entry
+      state.bound (Part.Unfolds (Decides logged stops) ∷ rest)
+      → Covers id asked state.wishes state.phase state.next_entry state.bound (decided state logged stops item ++ rest)
+  decided_covers {asked} logged stops state item rest calm c =
+      becomes (Decides logged stops) (decided state logged stops item ++ rest) rest calm refl
       (decided_alike (will_tell id asked) (λ thrown parts. refl) (λ stopping parts. refl) (λ thread object parts. refl)
-      (λ parts. refl) (λ parts. refl) state item rest)
+      (λ parts. refl) (λ parts. refl) (λ text texts strikes parts. refl) state logged stops item rest)
       (decided_alike (covers id asked false) (λ thrown parts. refl) (λ stopping parts. refl)
-      (λ thread object parts. refl) (λ parts. refl) (λ parts. refl) state item rest)
-      (none_noted id asked state.phase state.next_entry (decided state item ++ rest)
+      (λ thread object parts. refl) (λ parts. refl) (λ parts. refl) (λ text texts strikes parts. refl) state logged stops
+      item rest)
+      (none_noted id asked state.phase state.next_entry (decided state logged stops item ++ rest)
       (decided_alike has_lists (λ thrown parts. refl) (λ stopping parts. refl) (λ thread object parts. refl)
-      (λ parts. refl) (λ parts. refl) state item rest ∙ c.noted)) c
+      (λ parts. refl) (λ parts. refl) (λ text texts strikes parts. refl) state logged stops item rest ∙ c.noted)) c
 
   stepped_covers : {asked : Bool} (state : State) (code : Option ℕ) (rest : List Part) → is_bare id state.wishes ≡ false
       → Covers id asked state.wishes state.phase state.next_entry state.bound (Part.Unfolds Stepped ∷ rest)
@@ -243,7 +256,9 @@ module _ (id : ℕ) where
       → Covers id asked state.wishes state.phase state.next_entry state.bound (chosen choice state hand ++ rest)
   chosen_covers (TellsNews below) state hand rest near calm c =
       news_covers state below hand.item rest state.phase refl near c
-  chosen_covers Decides state hand rest near calm c = decided_covers state hand.item rest (calm refl) c
+  chosen_covers Judges state hand rest near calm c = judged_covers state hand.item rest (calm refl) c
+  chosen_covers (Decides logged stops) state hand rest near calm c =
+      decided_covers logged stops state hand.item rest (calm refl) c
   chosen_covers Stepped state hand rest near calm c = stepped_covers state (refused_with hand.effect) rest (calm refl) c
   chosen_covers (Written seen) state hand rest near calm c =
       written_covers state seen (refused_with hand.effect) rest c
@@ -432,6 +447,9 @@ module _ (id : ℕ) where
       found_silent (exception_text thread object)
       (Part.Tells (a_stop (record { cause = by_exception (text_of result); thread = thread }))) rest refl refl
       (ap (λ b. covers id asked b rest) (as_bare id (is_bare id w))) c.noted c
+  found_covers {asked} {w} (breakpoint_hits strikes) result state rest c =
+      found_silent (breakpoint_hits strikes) (Part.Unfolds (Decides (logged_of result) (stops_of result))) rest refl refl
+      (ap (λ b. covers id asked b rest) (as_bare id (is_bare id w))) c.noted c
   found_covers {asked} {w} class_facts result state rest c = record {
     early = c.early;
     below = c.below;
@@ -523,6 +541,10 @@ module _ (id : ℕ) where
   covered_on messages m next said r near here c (Moves.tells {rest = rest} {event = a_stop stopping} free at) =
       let front = at_front c at in
       skips id m.state.phase (Part.Tells (a_stop stopping)) rest front front.noted
+      (as_bare id (is_bare id m.state.wishes)) (λ fresh. fresh) refl
+  covered_on messages m next said r near here c (Moves.tells {rest = rest} {event = Logged text} free at) =
+      let front = at_front c at in
+      skips id m.state.phase (Part.Tells (Logged text)) rest front front.noted
       (as_bare id (is_bare id m.state.wishes)) (λ fresh. fresh) refl
   covered_on messages m next said r near here c (Moves.tells {rest = rest} {event = Terminated} free at) = cc
   covered_on messages m next said r near here c (Moves.sends {rest = rest} {deed} free at away) =

@@ -225,6 +225,28 @@ unfolding due wanted load_of newly_lacked next_change wished need chained made_w
     lossy_after is_utf8
 tells_both = refl
 
+-- Facts at once -------------------------------------------------------------------------------------------------------
+
+abbrev other_source : Request
+other_source = request 8 (SetBreakpoints (record { path = codes "s/b/G"; breakpoints = at_line 3 ∷ [] }))
+
+abbrev other_watched : Machine
+other_watched = answered (drive 8 (heard (drive 8 bound) other_source)) (an_effect (Set (wishes.Watch (codes "b"))))
+    (an_answer (answers.Set 5))
+
+-- the class of the other package that is known is asked for its source beside the list of all classes
+asks_beside : said_on 8 other_watched ≡ asks questions.AllClasses ∷ asks (questions.SourceFile (class 17)) ∷ []
+unfolding due wanted load_of newly_lacked next_change wished need chained made_with each key_of chars encode lossy
+    lossy_after is_utf8
+asks_beside = refl
+
+-- and for its methods, though that list isn't there yet
+asks_on : said_on 8 (answered (drive 8 other_watched) (a_question (questions.SourceFile (class 17)))
+    (an_answer (answers.SourceFile (codes "G")))) ≡ asks (questions.Methods (class 17)) ∷ []
+unfolding due wanted load_of newly_lacked next_change wished need chained made_with each key_of chars encode lossy
+    lossy_after is_utf8
+asks_on = refl
+
 -- Entries that are never bound ----------------------------------------------------------------------------------------
 
 abbrev outside : Request

@@ -124,30 +124,30 @@ caught_there world (pairs p q rest) c = absurd c
 
 -- Chains --------------------------------------------------------------------------------------------------------------
 
-chains : {A B : Type 0} (p : Plan A) (f : A → Plan B) → IsChain p → ((a : A) → IsChain (f a)) → IsChain (chained p f)
+pub chains : {A B : Type 0} (p : Plan A) (f : A → Plan B) → IsChain p → ((a : A) → IsChain (f a)) → IsChain (chained p f)
 unfolding IsChain chained
 chains (gives a) f c k = k a
 chains (wants want rest) f c k = (c.0, λ heard. chains (rest heard) f (c.1 heard) k)
 chains (tries question rest) f c k = λ heard. chains (rest heard) f (c heard) k
 chains (pairs p q rest) f c k = absurd c
 
-makes : {A B : Type 0} (f : A → B) (p : Plan A) → IsChain p → IsChain (made_with f p)
+pub makes : {A B : Type 0} (f : A → B) (p : Plan A) → IsChain p → IsChain (made_with f p)
 unfolding IsChain made_with
 makes f (gives a) c = tt
 makes f (wants want rest) c = (c.0, λ heard. makes f (rest heard) (c.1 heard))
 makes f (tries question rest) c = λ heard. makes f (rest heard) (c heard)
 makes f (pairs p q rest) c = absurd c
 
-one : {A : Type 0} (want : Want) (read : Option Answer → A) → is_right want ≡ true
+pub one : {A : Type 0} (want : Want) (read : Option Answer → A) → is_right want ≡ true
     → IsChain (wants want (λ heard. gives (read heard)))
 unfolding IsChain
 one want read is = (is, λ heard. tt)
 
-none : {A : Type 0} (a : A) → IsChain (gives a)
+pub none : {A : Type 0} (a : A) → IsChain (gives a)
 unfolding IsChain
 none a = tt
 
-if_there : {A : Type 0} (id : ℕ) (null : Plan A) (other : ℕ → Plan A) → IsChain null → ((id : ℕ) → IsChain (other id))
+pub if_there : {A : Type 0} (id : ℕ) (null : Plan A) (other : ℕ → Plan A) → IsChain null → ((id : ℕ) → IsChain (other id))
     → IsChain (by_id id null other)
 if_there zero null other c k = c
 if_there (suc id) null other c k = k (suc id)

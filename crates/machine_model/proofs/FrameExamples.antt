@@ -122,7 +122,7 @@ again = refl
 
 -- and another in the next one
 abbrev later_stop : Machine
-later_stop = drive 12 (happens (happened.Breakpoint 4 one (at 5) ∷ [])
+later_stop = drive 16 (happens (happened.Breakpoint 4 one (at 5) ∷ [])
     (drive 8 (done (Resume of_stop) answers.Resume (drive 8 (heard (drive 8 known) (continues 1))))))
 
 goes_on : said_on 8 (answered (says counts (answers.FrameCount 2) (drive 8 (heard later_stop (shows 1 0 1))))

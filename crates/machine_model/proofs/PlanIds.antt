@@ -22,6 +22,7 @@ use Rattle.machine_model.specs.Names.{all_threads, an_answer, an_error, threads_
 use Rattle.machine_model.specs.Names.{ShownFrame, ShownVariable, container_children, expression_value, frames_found}
 use Rattle.machine_model.specs.Names.{no_value, thread_frames, value_found, variable_write, write_found, Thrown}
 use Rattle.machine_model.specs.Names.{exception_found, exception_info, exception_text, text_found, variables_found}
+use Rattle.machine_model.specs.Names.{Strike, breakpoint_hits, hits_found}
 use Rattle.machine_model.proofs.WriteIds.{IsWrite}
 use Rattle.machine_model.specs.Plans.{Found, Need, Plan, Sight, after, answer_in, asks_for, beside, chained, fails}
 use Rattle.machine_model.specs.Plans.{found_at, found_from, gives, has, heard_of, lacks, made_with, need, pairs}
@@ -292,6 +293,10 @@ OfSeen P seen = OnSome (OfThing P) seen.thing
 abbrev pub OfShownVariable : (Id → Type 0) → ShownVariable → Type 0
 OfShownVariable P shown = OfSeen P shown.seen
 
+-- a strike: its thread, and the class and the method of its place
+abbrev pub OfStrike : (Id → Type 0) → Strike → Type 0
+OfStrike P strike = OfThread P strike.thread × P (class strike.at.class.0) × P (method strike.at.method.0)
+
 -- what a look-up finds has ids that pass
 abbrev pub IsGood : (Id → Type 0) → Finding → Type 0
 IsGood P (threads_found named) = All (OfNamed P) named
@@ -303,6 +308,7 @@ IsGood P (no_value failure) = Unit {0}
 IsGood P (write_found write seen) = IsWrite P write
 IsGood P (text_found text) = Unit {0}
 IsGood P (exception_found name mode) = Unit {0}
+IsGood P (hits_found passed logged stops) = All (OfStrike P) stops
 
 -- what a look-up is of
 abbrev pub OfLookup : (Id → Type 0) → Lookup → Type 0
@@ -313,4 +319,5 @@ OfLookup P (expression_value one expression) = OfFrameThing P one
 OfLookup P (variable_write thing name text) = OfThing P thing
 OfLookup P (exception_text thread one) = OfObject P one.0
 OfLookup P (exception_info thrown) = OfObject P thrown.object.0
+OfLookup P (breakpoint_hits strikes) = All (OfStrike P) strikes
 OfLookup P class_facts = Unit {0}

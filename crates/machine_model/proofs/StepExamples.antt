@@ -84,20 +84,20 @@ ends_at_breakpoint =
     happens (happened.SingleStep 9 one (at 5) ∷ happened.Breakpoint 4 one (at 5) ∷ []) (drive 8 stepping)
 
 -- the step is cleared once
-clears_step : said_on 12 ends_at_breakpoint ≡ changes (Clear over 9) ∷ []
+clears_step : said_on 16 ends_at_breakpoint ≡ changes (Clear over 9) ∷ []
 unfolding due wanted load_of newly_lacked next_change wished need chained made_with each key_of chars encode lossy
     lossy_after is_utf8
 clears_step = refl
 
 -- and one stop is told, of the breakpoint
-tells_breakpoint : said_on 12 (cleared 9 over (drive 12 ends_at_breakpoint))
+tells_breakpoint : said_on 16 (cleared 9 over (drive 16 ends_at_breakpoint))
     ≡ tells_stop (reasons.Breakpoint (1 ∷ [])) 1 ∷ []
 unfolding due wanted load_of newly_lacked next_change wished need chained made_with each key_of chars encode lossy
     lossy_after is_utf8
 tells_breakpoint = refl
 
 -- where no breakpoint stands the end of the step is told
-tells_step : said_on 12 (cleared 9 over (drive 12 (happens (happened.SingleStep 9 one (at 9) ∷ []) (drive 8 stepping))))
+tells_step : said_on 16 (cleared 9 over (drive 16 (happens (happened.SingleStep 9 one (at 9) ∷ []) (drive 8 stepping))))
     ≡ tells_stop reasons.Step 1 ∷ []
 unfolding due wanted load_of newly_lacked next_change wished need chained made_with each key_of chars encode lossy
     lossy_after is_utf8
@@ -170,14 +170,14 @@ abbrev its_type : Question
 its_type = questions.ObjectType object
 
 -- the type of what was thrown is looked up
-asks_type : said_on 12 thrown ≡ asks its_type ∷ []
+asks_type : said_on 16 thrown ≡ asks its_type ∷ []
 unfolding due wanted load_of newly_lacked next_change wished need chained made_with each key_of chars encode lossy
     lossy_after is_utf8
 asks_type = refl
 
 -- the class that it is of is no class that was listed
 abbrev typed : Machine
-typed = answered (drive 12 thrown) (a_question its_type) (an_answer (answers.ObjectType tags.Class (class 50)))
+typed = answered (drive 16 thrown) (a_question its_type) (an_answer (answers.ObjectType tags.Class (class 50)))
 
 asks_signature : said_on 8 typed ≡ asks (questions.Signature (class 50)) ∷ []
 unfolding due wanted load_of newly_lacked next_change wished need chained made_with each key_of chars encode lossy
@@ -195,7 +195,7 @@ unfolding due wanted load_of newly_lacked next_change wished need chained made_w
 tells_exception = refl
 
 -- without it, where the target refuses to say its class
-tells_nameless : said_on 8 (answered (drive 12 thrown) (a_question its_type) (an_error 20))
+tells_nameless : said_on 8 (answered (drive 16 thrown) (a_question its_type) (an_error 20))
     ≡ tells_stop (reasons.Exception None) 1 ∷ []
 unfolding due wanted load_of newly_lacked next_change wished need chained made_with each key_of chars encode lossy
     lossy_after is_utf8
@@ -237,15 +237,25 @@ unfolding due wanted load_of newly_lacked next_change wished need chained made_w
     lossy_after is_utf8
 watches_function = refl
 
+abbrev heard_list : Machine
+heard_list = answered (drive 8 (set_as 3 (wishes.Watch (codes "a")) (drive 8 (heard attached names))))
+    (a_question questions.AllClasses) (an_answer (answers.AllClasses classes))
+
+-- the class that is named is asked for its methods beside its source
+asks_both : said_on 8 heard_list ≡ asks (questions.SourceFile (class 16)) ∷ asks (questions.Methods (class 16))
+    ∷ asks (questions.SourceFile (class 20)) ∷ []
+unfolding due wanted load_of newly_lacked next_change wished need chained made_with each key_of chars encode lossy
+    lossy_after is_utf8
+asks_both = refl
+
 abbrev listed : Machine
-listed = says_of questions.AllClasses (answers.AllClasses classes)
-    (drive 8 (set_as 3 (wishes.Watch (codes "a")) (drive 8 (heard attached names))))
+listed = drive 8 heard_list
 
 abbrev sourced : Machine
 sourced = says_of (questions.SourceFile (class 16)) (answers.SourceFile (codes "F"))
     (drive 8 (answered listed (a_question (questions.SourceFile (class 20))) (an_error 101)))
 
--- the class that is named is asked for its methods, and the method that is named for its lines
+-- the method that is named is asked for its lines
 abbrev with_methods : Machine
 with_methods = answered sourced (a_question (questions.Methods (class 16)))
     (an_answer (answers.Methods (method 3 ∷ [])))
@@ -283,7 +293,7 @@ unfolding due wanted load_of newly_lacked next_change wished need chained made_w
 lists_functions = refl
 
 -- a stop there is one of a function
-stops_in_function : said_on 12 (happens (happened.Breakpoint 4 one (at 2) ∷ []) (drive 8 function_bound))
+stops_in_function : said_on 16 (happens (happened.Breakpoint 4 one (at 2) ∷ []) (drive 8 function_bound))
     ≡ tells_stop (reasons.FunctionBreakpoint (1 ∷ [])) 1 ∷ []
 unfolding due wanted load_of newly_lacked next_change wished need chained made_with each key_of chars encode lossy
     lossy_after is_utf8

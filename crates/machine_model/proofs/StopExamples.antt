@@ -61,35 +61,36 @@ abbrev pub first_hit : Machine
 first_hit = happens (happened.Breakpoint 4 one (at 5) ∷ []) running
 
 -- the first hit begins a stop, and its suspension is kept
-stops : said_on 12 first_hit ≡ tells_stop (reasons.Breakpoint (1 ∷ [])) 1 ∷ []
+stops : said_on 16 first_hit ≡ tells_stop (reasons.Breakpoint (1 ∷ [])) 1 ∷ []
 unfolding due wanted load_of newly_lacked next_change wished need chained made_with each key_of chars encode lossy
     lossy_after is_utf8
 stops = refl
 
 abbrev pub stopped : Machine
-stopped = drive 12 first_hit
+stopped = drive 16 first_hit
 
 -- that of a second hit is undone
-stops_again : said_on 12 (happens (happened.Breakpoint 4 two (at 5) ∷ []) stopped)
+stops_again : said_on 16 (happens (happened.Breakpoint 4 two (at 5) ∷ []) stopped)
     ≡ tells_stop (reasons.Breakpoint (1 ∷ [])) 2 ∷ does (Resume of_composite) ∷ []
 unfolding due wanted load_of newly_lacked next_change wished need chained made_with each key_of chars encode lossy
     lossy_after is_utf8
 stops_again = refl
 
--- a step and a hit at one place are one stop; a hit under no event request is none, nor is one where no breakpoint stands
-tells_once : said_on 12 (happens (happened.SingleStep 8 one (at 5) ∷ happened.Breakpoint 4 one (at 5) ∷ []) running)
+-- a step and a hit at one place are one stop; a hit under no event request is none, and nor is one where no breakpoint
+-- stands
+tells_once : said_on 16 (happens (happened.SingleStep 8 one (at 5) ∷ happened.Breakpoint 4 one (at 5) ∷ []) running)
     ≡ tells_stop (reasons.Breakpoint (1 ∷ [])) 1 ∷ []
 unfolding due wanted load_of newly_lacked next_change wished need chained made_with each key_of chars encode lossy
     lossy_after is_utf8
 tells_once = refl
 
-runs_on : said_on 8 (happens (happened.Breakpoint 9 one (at 5) ∷ []) running) ≡ does (Resume of_composite) ∷ []
+runs_on : said_on 16 (happens (happened.Breakpoint 9 one (at 5) ∷ []) running) ≡ does (Resume of_composite) ∷ []
 unfolding due wanted load_of newly_lacked next_change wished need chained made_with each key_of chars encode lossy
     lossy_after is_utf8
 runs_on = refl
 
-elsewhere : said_on 12 (happens (happened.Breakpoint 4 one (at 7) ∷ []) running)
-    ≡ tells_stop (reasons.FunctionBreakpoint []) 1 ∷ []
+elsewhere : said_on 16 (happens (happened.Breakpoint 4 one (at 7) ∷ []) running)
+    ≡ does (Resume of_composite) ∷ []
 unfolding due wanted load_of newly_lacked next_change wished need chained made_with each key_of chars encode lossy
     lossy_after is_utf8
 elsewhere = refl
@@ -162,13 +163,13 @@ unfolding due wanted load_of newly_lacked next_change wished need chained made_w
     lossy_after is_utf8
 holds_entry = refl
 
-resumes_entry : said_on 8 (heard (drive 8 starts) configures) ≡ does (Resume of_entry) ∷ []
+resumes_entry : said_on 8 (heard (drive 16 starts) configures) ≡ does (Resume of_entry) ∷ []
 unfolding due wanted load_of newly_lacked next_change wished need chained made_with each key_of chars encode lossy
     lossy_after is_utf8
 resumes_entry = refl
 
 -- and a target that starts later runs on
-starts_later : said_on 8 (happens (happened.VMStart 0 one ∷ []) (drive 8 (heard attached configures)))
+starts_later : said_on 16 (happens (happened.VMStart 0 one ∷ []) (drive 8 (heard attached configures)))
     ≡ does (Resume of_composite) ∷ []
 unfolding due wanted load_of newly_lacked next_change wished need chained made_with each key_of chars encode lossy
     lossy_after is_utf8

@@ -16,7 +16,7 @@ use Rattle.jdwp_values.specs.declared.class.Method.{Method}
 use Rattle.jdwp_values.specs.declared.id.ClassId.{ClassId}
 use Rattle.machine_model.specs.Facts.{methods_in, source_in}
 use Rattle.machine_model.specs.Names.{Answer, Want}
-use Rattle.machine_model.specs.Plans.{Plan, asking, chained, each, gives, joined, made_with}
+use Rattle.machine_model.specs.Plans.{Plan, asking, chained, each, gives, joined, made_with, pairs}
 use Rattle.wish_sets.specs.Places.{key_by}
 use Rattle.wish_sets.specs.Wanted.{Wanted}
 use Rattle.wish_sets.specs.Wished.{is_listed, is_named, is_watched}
@@ -67,11 +67,17 @@ abbrev pub keyed_plan : Bool → Wanted → ClassId → List ℕ → Plan (List 
 keyed_plan keyed wanted class signature =
     bound_plan (keyed || is_named wanted signature None) keyed wanted class signature
 
--- a class in a package that is watched is asked for its source
+-- a class that a function names is asked for its methods whatever its source is
+abbrev pub early_plan : Bool → ClassId → Plan (List Method)
+early_plan false class = gives []
+early_plan true class = asking methods_in (Want.Fact (questions.Methods class))
+
+-- a class in a package that is watched is asked for its source, and for its methods beside it where a function names it
 abbrev pub source_plan : Wanted → ClassId → List ℕ → Plan (List ClassId)
 source_plan wanted class signature =
-    chained (asking source_in (Want.Fact (questions.SourceFile class)))
-    (λ source. keyed_plan (is_keyed wanted (key_by signature source)) wanted class signature)
+    pairs (asking source_in (Want.Fact (questions.SourceFile class)))
+    (early_plan (is_named wanted signature None) class)
+    (λ two. keyed_plan (is_keyed wanted (key_by signature two.0)) wanted class signature)
 
 abbrev pub watched_plan : Bool → Wanted → ClassId → List ℕ → Plan (List ClassId)
 watched_plan false wanted class signature = gives []
@@ -97,7 +103,12 @@ abbrev pub known_plan : Wanted → Lookups → Plan (List ClassId)
 known_plan wanted known =
     made_with joined (each (λ class. class_plan wanted class (known.loaded class)) known.order)
 
--- All classes are listed first where a watch was set since they were, and then each is asked for what is missing.
+-- a list of all classes, of which nothing is read off
+abbrev pub listing_plan : Plan (List ClassId)
+listing_plan = asking (λ heard. []) (Want.Must questions.AllClasses)
+
+-- Each class is asked for what is missing. Where a watch was set since they were listed, all classes are listed beside
+-- it, and none is found before.
 abbrev pub classes_plan : Bool → Wanted → Lookups → Plan (List ClassId)
-classes_plan true wanted known = asking (λ heard. []) (Want.Must questions.AllClasses)
+classes_plan true wanted known = pairs listing_plan (known_plan wanted known) (λ two. gives two.0)
 classes_plan false wanted known = known_plan wanted known

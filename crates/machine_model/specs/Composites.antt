@@ -7,7 +7,7 @@ use Rattle.jdwp_events.specs.declared.event.Event.TheVariants as happened
 use Rattle.jdwp_events.specs.declared.kind.Policy.{Policy}
 use Rattle.jdwp_events.specs.declared.kind.Policy.TheVariants.{NoThread, EventThread, All}
 use Rattle.machine_model.specs.Classes.{with_listed}
-use Rattle.machine_model.specs.Names.{Attached, Composite, Decides, Fresh, Gone, Item, LoadedClass, News, OneThread}
+use Rattle.machine_model.specs.Names.{Attached, Composite, Fresh, Gone, Item, Judges, LoadedClass, News, OneThread}
 use Rattle.machine_model.specs.Names.{Part, Phase, TellsNews, Terminated, a_composite, a_raw, a_request, class_facts}
 use Rattle.machine_model.specs.Names.{target_end, thread_changed}
 
@@ -74,12 +74,13 @@ abbrev pub binding_parts : ℕ → List Part → List Part
 binding_parts below behind =
     Part.Looks class_facts ∷ Part.Updates ∷ Part.Unfolds (TellsNews below) ∷ behind
 
--- By its suspend policy: once all that is wished in the classes stands, it is decided what becomes of the suspension of
--- the whole target; one of a single thread was never asked for, and ends the session (JDWP, Constants, SuspendPolicy).
+-- By its suspend policy: once all that is wished in the classes stands, the breakpoints that threads came to are judged,
+-- and it is decided what becomes of the suspension of the whole target; one of a single thread was never asked for, and
+-- ends the session (JDWP, Constants, SuspendPolicy).
 abbrev pub composite_row : Policy → ℕ → ℕ → List Part
 composite_row NoThread at below = binding_parts below []
 composite_row EventThread at below = Part.Ends (OneThread at) ∷ []
-composite_row All at below = binding_parts below (Part.Unfolds Decides ∷ [])
+composite_row All at below = binding_parts below (Part.Unfolds Judges ∷ [])
 
 -- the target's end is told, and nothing else of its composite (DAP specification, Events, Terminated)
 abbrev pub dying_row : Policy → ℕ → List Part

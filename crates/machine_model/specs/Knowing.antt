@@ -29,7 +29,8 @@ use Rattle.machine_model.specs.Names.{Item, Leaves, Note, Part, Phase, Question,
 use Rattle.machine_model.specs.Names.{Suspend, Suspension, TargetCommand, TellsNews, Terminated, ThreadId, Told}
 use Rattle.machine_model.specs.Names.{a_composite, a_question, a_response, a_stop, an_answer, an_effect, an_error}
 use Rattle.machine_model.specs.Names.{an_event, by_client, by_exception, by_step, exception_text, of_composite, of_entry}
-use Rattle.machine_model.specs.Names.{of_stop, some_news, Lookup, Stepped, Writes, Written}
+use Rattle.machine_model.specs.Names.{of_stop, some_news, Judges, Logged, Lookup, Stepped, Writes, Written}
+use Rattle.machine_model.specs.Names.{breakpoint_hits}
 use Rattle.machine_model.specs.Pending.{bit}
 use Rattle.machine_model.specs.Plans.{answer_in}
 use Rattle.machine_model.specs.Runs.{Message, Run}
@@ -173,6 +174,7 @@ event_view events.Initialized view = record view { phase = Attached }
 event_view (events.Breakpoint breakpoint) view = record view { bound = with_told view.bound (breakpoint ∷ []) }
 event_view (events.Thread change) view = view
 event_view (events.Stopped stop) view = record view { stopped = true }
+event_view (events.Output text) view = view
 event_view events.Terminated view = record (gone_view view) { terminated = true }
 
 -- the breakpoints that a body shows (DAP specification, SetBreakpoints request)
@@ -273,6 +275,7 @@ may_tell (an_event events.Initialized) view = is_fresh view.phase
 may_tell (an_event (events.Breakpoint breakpoint)) view = not (is_gone view.phase)
 may_tell (an_event (events.Thread change)) view = not (is_gone view.phase)
 may_tell (an_event (events.Stopped stop)) view = cond (is_gone view.phase) false (nat_lt 0 view.held)
+may_tell (an_event (events.Output text)) view = cond (is_gone view.phase) false (nat_lt 0 view.held)
 may_tell (an_event events.Terminated) view =
     cond (is_gone view.phase) (not view.terminated) (cond view.dying (not view.terminated) false)
 
@@ -326,7 +329,7 @@ waiting_composites false items = flat_map composite_in items
 -- as the entry or for the stop that begins.
 abbrev pub begins : Bool → StopCause → Bool
 begins true reason = false
-begins false (Hit at) = true
+begins false (Hit entries) = true
 begins false (by_exception text) = true
 begins false by_step = true
 begins false by_client = false
@@ -340,6 +343,7 @@ abbrev pub event_owes : Bool → Event → Bool
 event_owes stopped Initialized = false
 event_owes stopped (some_news news) = false
 event_owes stopped (a_stop stopping) = begins stopped stopping.cause
+event_owes stopped (Logged text) = false
 event_owes stopped Terminated = false
 
 abbrev pub deed_owes : Deed → Bool
@@ -355,10 +359,17 @@ note_owes _ = false
 
 abbrev pub choice_owes : Choice → Bool
 choice_owes (TellsNews below) = false
-choice_owes Decides = true
+choice_owes Judges = true
+choice_owes (Decides logged stops) = true
 choice_owes Stepped = false
 choice_owes (Written seen) = false
 choice_owes (Leaves exits) = false
+
+-- the look-up of what was thrown begins a stop, where none is in hand; that of hits decides on the suspension
+abbrev pub lookup_owes : Bool → Lookup → Bool
+lookup_owes stopped (exception_text thread object) = not stopped
+lookup_owes stopped (breakpoint_hits strikes) = true
+lookup_owes stopped _ = false
 
 -- the look-up of what was thrown is told of as a stop
 abbrev pub lookup_stops : Lookup → Bool
@@ -370,7 +381,7 @@ part_owes stopped (Part.Tells event) = event_owes stopped event
 part_owes stopped (Part.Sends deed) = deed_owes deed
 part_owes stopped (Part.Notes note) = note_owes note
 part_owes stopped (Part.Unfolds choice) = choice_owes choice
-part_owes stopped (Part.Looks lookup) = cond (lookup_stops lookup) (not stopped) false
+part_owes stopped (Part.Looks lookup) = lookup_owes stopped lookup
 part_owes stopped _ = false
 
 -- whether a stop is in hand behind a part
@@ -378,6 +389,7 @@ abbrev pub stopped_told : Event → Bool → Bool
 stopped_told Initialized stopped = stopped
 stopped_told (some_news news) stopped = stopped
 stopped_told (a_stop stopping) stopped = true
+stopped_told (Logged text) stopped = stopped
 stopped_told Terminated stopped = false
 
 abbrev pub stopped_behind : Part → Bool → Bool
@@ -487,6 +499,7 @@ numbers_in_event events.Initialized = []
 numbers_in_event (events.Breakpoint breakpoint) = []
 numbers_in_event (events.Thread change) = change.id ∷ []
 numbers_in_event (events.Stopped stop) = stop.thread ∷ []
+numbers_in_event (events.Output text) = []
 numbers_in_event events.Terminated = []
 
 abbrev pub numbers_in : Told → List ℕ

@@ -16,6 +16,7 @@ pub mod Facts
 pub mod Frames
 pub mod Harmless
 pub mod Ids
+pub mod Judging
 pub mod Keys
 pub mod Knowing
 pub mod Leaving
@@ -34,6 +35,8 @@ pub mod Requests
 pub mod Responses
 pub mod Rest
 pub mod Rows
+pub mod RuleTables
+pub mod RuleTexts
 pub mod Runs
 pub mod Spelling
 pub mod State

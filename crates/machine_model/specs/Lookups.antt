@@ -1,5 +1,5 @@
 -- What each look-up asks of the target, and what its result becomes.
-use Rattle.std.specs.Prelude.{ℕ, ◌==◌, ◌∷◌, Bool, true, false, cond, List, [], Option, None, Some}
+use Rattle.std.specs.Prelude.{ℕ, ◌==◌, ◌∷◌, Bool, true, false, cond, List, [], map, Option, None, Some}
 use Rattle.class_tables.specs.Lookups.{found_in}
 use Rattle.dap_messages.specs.Telling.{references_spent, target_error, unknown_thread}
 use Rattle.jdwp_commands.specs.declared.answer.Answer.TheVariants as answers
@@ -14,7 +14,8 @@ use Rattle.machine_model.specs.Names.{thread_list, threads_found, variable_list,
 use Rattle.machine_model.specs.Names.{a_value, by_exception, exception_found, exception_info, exception_text, text_found}
 use Rattle.machine_model.specs.Names.{Nothing, Outcome, Part, Success, ThreadId, Want, Written, Writes, all_threads}
 use Rattle.machine_model.specs.Names.{class_facts, expression_value, no_value, value_found, variable_write, write_found}
-use Rattle.machine_model.specs.Plans.{Need, Plan, Result, Sight, asking, chained, each, gave, joined, made_with}
+use Rattle.machine_model.specs.Names.{Decides, Strike, breakpoint_hits, hits_found}
+use Rattle.machine_model.specs.Plans.{Need, Plan, Result, Sight, asking, chained, each, gave, gives, joined, made_with}
 use Rattle.machine_model.specs.Plans.{need, refused}
 use Rattle.machine_model.specs.References.{has_room, things_of}
 use Rattle.machine_model.specs.State.{Hand, State}
@@ -47,6 +48,12 @@ threads_in _ = []
 abbrev pub threads_plan : Plan Finding
 threads_plan = chained (asking threads_in (Want.Must questions.AllThreads)) names_plan
 
+-- Hits ----------------------------------------------------------------------------------------------------------------
+
+-- each breakpoint that a thread came to is passed, logs nothing and stops it
+abbrev pub hits_plan : List Strike → Plan Finding
+hits_plan strikes = gives (hits_found (map (λ strike. strike.entry.id) strikes) [] strikes)
+
 -- The tables ----------------------------------------------------------------------------------------------------------
 
 -- the plan of a look-up
@@ -59,6 +66,7 @@ plan (expression_value frame expression) state = value_plan state.options.shows_
 plan (variable_write thing name text) state = write_plan state.options.shows_types state.sizes thing name text
 plan (exception_text thread object) state = text_plan object.0
 plan (exception_info thrown) state = exception_plan thrown
+plan (breakpoint_hits strikes) state = hits_plan strikes
 plan class_facts state =
     made_with classes_found (classes_plan state.unlisted state.wishes.wanted (found_in state.classes))
 
@@ -81,6 +89,7 @@ classes_of (gave (no_value failure)) = []
 classes_of (gave (write_found write seen)) = []
 classes_of (gave (text_found text)) = []
 classes_of (gave (exception_found id mode)) = []
+classes_of (gave (hits_found passed logged stops)) = []
 classes_of (refused code) = []
 
 -- the text that was found
@@ -94,6 +103,7 @@ text_of (gave (no_value failure)) = None
 text_of (gave (write_found write seen)) = None
 text_of (gave (text_found text)) = text
 text_of (gave (exception_found id mode)) = None
+text_of (gave (hits_found passed logged stops)) = None
 text_of (refused code) = None
 
 -- what a response shows that was found
@@ -107,6 +117,7 @@ body_of (no_value failure) = Nothing
 body_of (write_found write seen) = Nothing
 body_of (text_found text) = Nothing
 body_of (exception_found id mode) = an_exception id mode
+body_of (hits_found passed logged stops) = Nothing
 
 -- the response that shows what has no numbers to be told: threads, or an exception
 abbrev pub plain_outcome : Result Finding → Outcome
@@ -141,6 +152,15 @@ abbrev pub written_parts : Result Finding → List Part
 written_parts (gave finding) = write_parts finding
 written_parts (refused code) = Part.Responds (Failed (refusal code)) ∷ []
 
+-- what judged breakpoints log, and what stops; that of no other look-up
+abbrev pub logged_of : Result Finding → List (List ℕ)
+logged_of (gave (hits_found passed logged stops)) = logged
+logged_of _ = []
+
+abbrev pub stops_of : Result Finding → List Strike
+stops_of (gave (hits_found passed logged stops)) = stops
+stops_of _ = []
+
 -- the parts that a result becomes
 abbrev pub finished : Lookup → Result Finding → State → List Part
 finished all_threads result state = Part.Responds (plain_outcome result) ∷ []
@@ -152,6 +172,7 @@ finished (variable_write thing name text) result state = written_parts result
 finished (exception_text thread object) result state =
     Part.Tells (a_stop (record { cause = by_exception (text_of result); thread = thread })) ∷ []
 finished (exception_info thrown) result state = Part.Responds (plain_outcome result) ∷ []
+finished (breakpoint_hits strikes) result state = Part.Unfolds (Decides (logged_of result) (stops_of result)) ∷ []
 finished class_facts result state = Part.Notes (Classes (classes_of result)) ∷ []
 
 -- whether they bring the response
@@ -163,4 +184,5 @@ lookup_responds (expression_value frame expression) = true
 lookup_responds (variable_write thing name text) = true
 lookup_responds (exception_text thread object) = false
 lookup_responds (exception_info thrown) = true
+lookup_responds (breakpoint_hits strikes) = false
 lookup_responds class_facts = false

@@ -42,12 +42,13 @@ pub use Rattle.machine_model.specs.declared.parts.Body.TheVariants.{Scopes as sc
 pub use Rattle.machine_model.specs.declared.parts.Body.TheVariants.{Value as a_value, Written as a_written}
 pub use Rattle.machine_model.specs.declared.parts.Body.TheVariants.{Exception as an_exception}
 pub use Rattle.machine_model.specs.declared.parts.Choice.{Choice}
-pub use Rattle.machine_model.specs.declared.parts.Choice.TheVariants.{TellsNews, Decides, Stepped, Written, Leaves}
+pub use Rattle.machine_model.specs.declared.parts.Choice.TheVariants.{TellsNews, Judges, Decides, Stepped, Written}
+pub use Rattle.machine_model.specs.declared.parts.Choice.TheVariants.{Leaves}
 pub use Rattle.machine_model.specs.declared.parts.Deed.{Deed}
 pub use Rattle.machine_model.specs.declared.parts.Deed.TheVariants.{Suspend, Resume, Dispose, Exit, Writes}
 pub use Rattle.machine_model.specs.declared.parts.Event.{Event}
 pub use Rattle.machine_model.specs.declared.parts.Event.TheVariants.{Initialized, News as some_news, Terminated}
-pub use Rattle.machine_model.specs.declared.parts.Event.TheVariants.{Stopped as a_stop}
+pub use Rattle.machine_model.specs.declared.parts.Event.TheVariants.{Logged, Stopped as a_stop}
 pub use Rattle.machine_model.specs.declared.parts.Finding.{Finding}
 pub use Rattle.machine_model.specs.declared.parts.Finding.TheVariants.{Threads as threads_found}
 pub use Rattle.machine_model.specs.declared.parts.Finding.TheVariants.{Classes as classes_found}
@@ -56,7 +57,7 @@ pub use Rattle.machine_model.specs.declared.parts.Finding.TheVariants.{Variables
 pub use Rattle.machine_model.specs.declared.parts.Finding.TheVariants.{Value as value_found, NoValue as no_value}
 pub use Rattle.machine_model.specs.declared.parts.Finding.TheVariants.{Write as write_found}
 pub use Rattle.machine_model.specs.declared.parts.Finding.TheVariants.{ExceptionText as text_found}
-pub use Rattle.machine_model.specs.declared.parts.Finding.TheVariants.{Exception as exception_found}
+pub use Rattle.machine_model.specs.declared.parts.Finding.TheVariants.{Exception as exception_found, Hits as hits_found}
 pub use Rattle.machine_model.specs.declared.parts.Finish.{Finish}
 pub use Rattle.machine_model.specs.declared.parts.Finish.TheVariants.{Done, OneThread}
 pub use Rattle.machine_model.specs.declared.parts.Guard.{Guard}
@@ -65,6 +66,7 @@ pub use Rattle.machine_model.specs.declared.parts.Halt.{Halt}
 pub use Rattle.machine_model.specs.declared.parts.HaltCause.{HaltCause}
 pub use Rattle.machine_model.specs.declared.parts.HaltCause.TheVariants.{Breakpoint as came_to, Exception as threw}
 pub use Rattle.machine_model.specs.declared.parts.HaltCause.TheVariants.{Step as has_stepped}
+pub use Rattle.machine_model.specs.declared.parts.Judgement.{Judgement}
 pub use Rattle.machine_model.specs.declared.parts.ListedBreakpoint.{ListedBreakpoint}
 pub use Rattle.machine_model.specs.declared.parts.Lookup.{Lookup}
 pub use Rattle.machine_model.specs.declared.parts.Lookup.TheVariants.{Threads as all_threads}
@@ -73,7 +75,7 @@ pub use Rattle.machine_model.specs.declared.parts.Lookup.TheVariants.{Frames as 
 pub use Rattle.machine_model.specs.declared.parts.Lookup.TheVariants.{Variables as container_children}
 pub use Rattle.machine_model.specs.declared.parts.Lookup.TheVariants.{Value as expression_value, Write as variable_write}
 pub use Rattle.machine_model.specs.declared.parts.Lookup.TheVariants.{ExceptionText as exception_text}
-pub use Rattle.machine_model.specs.declared.parts.Lookup.TheVariants.{Exception as exception_info}
+pub use Rattle.machine_model.specs.declared.parts.Lookup.TheVariants.{Exception as exception_info, Hits as breakpoint_hits}
 pub use Rattle.machine_model.specs.declared.parts.NamedThread.{NamedThread}
 pub use Rattle.machine_model.specs.declared.parts.News.{News}
 pub use Rattle.machine_model.specs.declared.parts.News.TheVariants.{Verified as entry_verified}
@@ -85,6 +87,10 @@ pub use Rattle.machine_model.specs.declared.parts.Note.TheVariants.{Exceptions a
 pub use Rattle.machine_model.specs.declared.parts.Outcome.{Outcome}
 pub use Rattle.machine_model.specs.declared.parts.Outcome.TheVariants.{Success, Failure as Failed}
 pub use Rattle.machine_model.specs.declared.parts.Part.{Part}
+pub use Rattle.machine_model.specs.declared.parts.RuleText.{RuleText}
+pub use Rattle.machine_model.specs.declared.parts.RuleText.TheVariants.{Condition as of_condition, Hit as of_hit}
+pub use Rattle.machine_model.specs.declared.parts.RuleText.TheVariants.{Log as of_log}
+pub use Rattle.machine_model.specs.declared.parts.Ruled.{Ruled}
 pub use Rattle.machine_model.specs.declared.parts.Seen.{Seen}
 pub use Rattle.machine_model.specs.declared.parts.ShownFrame.{ShownFrame}
 pub use Rattle.machine_model.specs.declared.parts.ShownVariable.{ShownVariable}
@@ -96,6 +102,7 @@ pub use Rattle.machine_model.specs.declared.parts.Stopping.{Stopping}
 pub use Rattle.machine_model.specs.declared.parts.Store.{Store}
 pub use Rattle.machine_model.specs.declared.parts.Store.TheVariants.{Slot as to_slot, Field as to_field}
 pub use Rattle.machine_model.specs.declared.parts.Store.TheVariants.{Element as to_element}
+pub use Rattle.machine_model.specs.declared.parts.Strike.{Strike}
 pub use Rattle.machine_model.specs.declared.parts.Suspension.{Suspension}
 pub use Rattle.machine_model.specs.declared.parts.Suspension.TheVariants.{Composite as of_composite, Entry as of_entry}
 pub use Rattle.machine_model.specs.declared.parts.Suspension.TheVariants.{Stop as of_stop}

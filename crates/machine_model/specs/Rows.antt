@@ -29,7 +29,8 @@ use Rattle.machine_model.specs.Names.{StepOut, Stepped, Steps, StopsAt, Replied,
 use Rattle.machine_model.specs.Names.{Evaluate, SetVariable, Seen, Written, a_written, exception_info, expression_value}
 use Rattle.machine_model.specs.Names.{variable_write}
 use Rattle.machine_model.specs.State.{Hand, State, is_some}
-use Rattle.machine_model.specs.Stops.{decided}
+use Rattle.machine_model.specs.Names.{Judges}
+use Rattle.machine_model.specs.Stops.{decided, judged}
 use Rattle.machine_model.specs.Variables.{reference_failure}
 use Rattle.stop_refs.specs.Numbers.{InHand, container, frame}
 use Rattle.stop_refs.specs.declared.fault.RefFault.{RefFault}
@@ -304,7 +305,8 @@ written_by seen (Some code) = Part.Responds (Failed (refusal code)) ∷ []
 -- the table of choices: what a part becomes when its turn comes
 abbrev pub chosen : Choice → State → Hand → List Part
 chosen (TellsNews below) state hand = told_in state.phase (news_of below state hand.item)
-chosen Decides state hand = decided state hand.item
+chosen Judges state hand = judged state hand.item
+chosen (Decides logged stops) state hand = decided state logged stops hand.item
 chosen Stepped state hand = stepped_by (refused_with hand.effect)
 chosen (Written seen) state hand = written_by seen (refused_with hand.effect)
 chosen (Leaves exits) state hand = leaves state.phase exits
@@ -312,7 +314,8 @@ chosen (Leaves exits) state hand = leaves state.phase exits
 -- whether it brings the response
 abbrev pub choice_responds : Choice → Bool
 choice_responds (TellsNews below) = false
-choice_responds Decides = false
+choice_responds Judges = false
+choice_responds (Decides logged stops) = false
 choice_responds Stepped = true
 choice_responds (Written seen) = true
 choice_responds (Leaves exits) = false

@@ -1,6 +1,6 @@
 -- The event `stopped`, in every run (DAP specification, Events, Stopped). The laws stand at the end, behind what they
 -- speak of.
-use Rattle.std.specs.Prelude.{ℕ, ◌≡◌, ◌≢◌, ◌∷◌, ◌++◌, List, true, Option, Some}
+use Rattle.std.specs.Prelude.{ℕ, ◌≡◌, ◌≢◌, ◌∷◌, ◌++◌, List, [], true, false, Option, Some}
 use Rattle.dap_messages.specs.declared.requests.ThreadArguments.{ThreadArguments}
 use Rattle.dap_messages.specs.declared.told.Event.TheVariants as events
 use Rattle.dap_messages.specs.declared.told.StopReason.TheVariants as reasons
@@ -12,19 +12,20 @@ use Rattle.jdwp_values.specs.declared.id.ObjectId.{ObjectId}
 use Rattle.jdwp_values.specs.declared.value.Value.{Value}
 use Rattle.machine_model.specs.Children.{object_named}
 use Rattle.machine_model.specs.Due.{due}
-use Rattle.machine_model.specs.Lookups.{found_for, text_of}
+use Rattle.machine_model.specs.Lookups.{found_for, stops_of, text_of}
 use Rattle.machine_model.specs.Names.{Act, Composite, Does, Halt, Hit, Item, Location, Pause, Request, Resume, Stopping}
 use Rattle.machine_model.specs.Names.{ThreadId, a_composite, a_request, a_stop, an_event, by_exception, by_step, came_to}
 use Rattle.machine_model.specs.Names.{exception_text, has_stepped, of_composite, threw}
+use Rattle.machine_model.specs.Names.{Finding, Strike, breakpoint_hits}
 use Rattle.machine_model.specs.Outcomes.{result_of}
-use Rattle.machine_model.specs.Plans.{is_done}
+use Rattle.machine_model.specs.Plans.{Result, is_done}
 use Rattle.machine_model.specs.Requests.{Wishes}
 use Rattle.machine_model.specs.Runs.{Message, Run}
 use Rattle.machine_model.specs.State.{Hand, Machine, State}
-use Rattle.machine_model.specs.Stops.{events_in, is_live}
+use Rattle.machine_model.specs.Stops.{events_in, is_live, stopping_at, strikes_in}
 use Rattle.machine_model.specs.Suspending.{IsBoundFirst}
 use Rattle.machine_model.specs.Telling.{after_event, event_told}
-use Rattle.std.specs.Prelude.{false}
+use Rattle.wish_sets.specs.declared.entry.EntryAt.{EntryAt}
 
 -- Hits ----------------------------------------------------------------------------------------------------------------
 
@@ -78,10 +79,48 @@ pub record WasNamed (messages : List Message) (item : Item) (thread : ThreadId) 
   pub done : is_done (found_for (exception_text thread object) there.state hand) ≡ true
   pub text_is : text ≡ text_of (result_of (found_for (exception_text thread object) there.state hand))
 
+-- At some time in these messages the item was in hand, no event request was to be set or cleared, breakpoints were bound
+-- by all that was known, and these are all breakpoints that threads had come to by events of the item.
+pub record WereStruck (messages : List Message) (item : Item) (strikes : List Strike) : Type 0 where
+  pub earlier : List Message
+  pub later : List Message
+  pub there : Machine
+  pub hand : Hand
+  pub messages_are : messages ≡ earlier ++ later
+  pub run : Run earlier there
+  pub is_held : there.hand ≡ Some hand
+  pub is_item : hand.item ≡ item
+  pub bound : IsBoundFirst there.state
+  pub strikes_are : strikes ≡ strikes_in there.state.wishes (events_in item)
+
+-- At some time in these messages the item was in hand, and the look-up that judges these breakpoints was done, with this
+-- result.
+pub record WasJudged (messages : List Message) (item : Item) (found : Result Finding) : Type 0 where
+  pub strikes : List Strike
+  pub struck : WereStruck messages item strikes
+  pub earlier : List Message
+  pub later : List Message
+  pub there : Machine
+  pub hand : Hand
+  pub messages_are : messages ≡ earlier ++ later
+  pub run : Run earlier there
+  pub is_held : there.hand ≡ Some hand
+  pub is_item : hand.item ≡ item
+  pub done : is_done (found_for (breakpoint_hits strikes) there.state hand) ≡ true
+  pub found_is : found ≡ result_of (found_for (breakpoint_hits strikes) there.state hand)
+
+-- of those that stop these stand at this place
+pub record Stops (messages : List Message) (item : Item) (at : Location) (entries : List EntryAt) : Type 0 where
+  pub found : Result Finding
+  pub judged : WasJudged messages item found
+  pub entries_are : entries ≡ stopping_at at (stops_of found)
+  pub some : entries ≢ []
+
 -- a thread halted, and is told so
 pub data IsToldOf (messages : List Message) (item : Item) : Halt → Stopping → Type 0 where
-  of_breakpoint : {thread : ThreadId} {at : Location}
-      → IsToldOf messages item (record { cause = came_to at; thread = thread }) (record { cause = Hit at; thread = thread })
+  of_breakpoint : {thread : ThreadId} {at : Location} {entries : List EntryAt} → Stops messages item at entries
+      → IsToldOf messages item (record { cause = came_to at; thread = thread })
+      (record { cause = Hit entries; thread = thread })
   of_exception : {thread : ThreadId} {object : ObjectId} {text : Option (List ℕ)}
       → WasNamed messages item thread object text
       → IsToldOf messages item (record { cause = threw object; thread = thread })

@@ -1,8 +1,10 @@
 -- What becomes of a composite that has suspended the whole target: it is a stop, the target's entry is held, or the
 -- target runs on (JDWP, Event command set, Composite; DAP specification, Events, Stopped).
-use Rattle.std.specs.Prelude.{ℕ, zero, suc, ◌∷◌, ◌++◌, ◌||◌, ◌==◌, Bool, true, false, not, cond, List, [], find}
-use Rattle.std.specs.Prelude.{Option, None, Some}
-use Rattle.std.specs.List.{flat_map, list_any}
+use Rattle.std.specs.Prelude.{ℕ, ◌∷◌, ◌||◌, ◌==◌, Bool, true, false, not, cond, List, [], find}
+use Rattle.std.specs.Prelude.{Option, None, Some, option_map, map, filter, fold}
+use Rattle.std.specs.BTreeSet.{insert_key}
+use Rattle.std.specs.List.{flat_map}
+use Rattle.std.specs.Ordering.{nat_cmp, on}
 use Rattle.std.specs.Option.{option_or}
 use Rattle.jdwp_events.specs.declared.event.Event.{Event as ATargetEvent}
 use Rattle.jdwp_events.specs.declared.event.Event.TheVariants as happened
@@ -11,10 +13,14 @@ use Rattle.jdwp_events.specs.declared.kind.EventKind.TheVariants as kinds
 use Rattle.machine_model.specs.Children.{object_named}
 use Rattle.machine_model.specs.Names.{EntryHeld, Halt, HaltCause, Hit, Item, Part, Resume, Steps, Thrown, Throws}
 use Rattle.machine_model.specs.Names.{a_composite, a_raw, a_request, a_stop, by_step, came_to, exception_text}
-use Rattle.machine_model.specs.Names.{has_stepped, of_composite, target_end, threw, ThreadId}
+use Rattle.machine_model.specs.Names.{has_stepped, of_composite, target_end, threw, ThreadId, Decides, Location, Logged}
+use Rattle.machine_model.specs.Names.{Strike, breakpoint_hits}
 use Rattle.machine_model.specs.State.{State, is_attached, is_some}
 use Rattle.wish_sets.specs.Entries.{entries_at}
+use Rattle.wish_sets.specs.Order.{is_wish}
 use Rattle.wish_sets.specs.Wishes.{Wishes, owner_of}
+use Rattle.wish_sets.specs.declared.entry.EntryAt.{EntryAt}
+use Rattle.wish_sets.specs.declared.wish.Wish.TheVariants as wish
 
 -- Hits ----------------------------------------------------------------------------------------------------------------
 
@@ -22,11 +28,22 @@ use Rattle.wish_sets.specs.Wishes.{Wishes, owner_of}
 abbrev pub is_live : Wishes → EventKind → ℕ → Bool
 is_live wishes kind request = is_some (owner_of wishes.installed kind request)
 
--- a thread halted under an event request that is installed: it came to a breakpoint, it threw something, or its step has
--- ended (JDWP, Event command set, Composite, Breakpoint, Exception and SingleStep)
+-- A thread came to a place under an event request that is installed: each breakpoint that stands there is to be judged,
+-- in order of their ids (JDWP, Event command set, Composite, Breakpoint).
+abbrev pub strike_at : ThreadId → Location → EntryAt → Strike
+strike_at thread at entry = record { thread = thread; at = at; entry = entry }
+
+abbrev pub strikes_by : Wishes → ATargetEvent → List Strike
+strikes_by wishes (happened.Breakpoint request thread at) =
+    cond (is_live wishes kinds.Breakpoint request) (map (strike_at thread at) (entries_at wishes.wanted at)) []
+strikes_by wishes _ = []
+
+abbrev pub strikes_in : Wishes → List ATargetEvent → List Strike
+strikes_in wishes events = flat_map (strikes_by wishes) events
+
+-- a thread halted otherwise under an event request that is installed: it threw something, or its step has ended (JDWP,
+-- Event command set, Composite, Exception and SingleStep)
 abbrev pub hit_by : Wishes → ATargetEvent → List Halt
-hit_by wishes (happened.Breakpoint request thread at) =
-    cond (is_live wishes kinds.Breakpoint request) (record { cause = came_to at; thread = thread } ∷ []) []
 hit_by wishes (happened.Exception request thread at exception catch) =
     cond (is_live wishes kinds.Exception request)
     (record { cause = threw (record { 0 = object_named exception }); thread = thread } ∷ []) []
@@ -36,17 +53,6 @@ hit_by wishes _ = []
 
 abbrev pub hits_in : Wishes → List ATargetEvent → List Halt
 hits_in wishes events = flat_map (hit_by wishes) events
-
--- a breakpoint of a source stands there
-abbrev pub is_at_line : Wishes → HaltCause → Bool
-is_at_line wishes (came_to at) = list_any (λ entry. entry.line) (entries_at wishes.wanted at)
-is_at_line wishes (threw object) = false
-is_at_line wishes has_stepped = false
-
-abbrev pub is_breakpoint : HaltCause → Bool
-is_breakpoint (came_to at) = true
-is_breakpoint (threw object) = false
-is_breakpoint has_stepped = false
 
 abbrev pub is_thrown : HaltCause → Bool
 is_thrown (came_to at) = false
@@ -61,10 +67,27 @@ first_of (hit ∷ hits) = Some hit
 abbrev pub first_with : (HaltCause → Bool) → List Halt → Option Halt → Option Halt
 first_with test hits other = option_or (find (λ hit. test hit.cause) hits) other
 
+-- the first at which a breakpoint of a source stops, else the first at which one of a function does
+abbrev pub first_strike : List Strike → Option Strike
+first_strike [] = None
+first_strike (strike ∷ strikes) = Some strike
+
+abbrev pub strike_told : List Strike → Option Strike
+strike_told stops = option_or (find (λ strike. strike.entry.line) stops) (first_strike stops)
+
+abbrev pub halt_at : Strike → Halt
+halt_at strike = record { cause = came_to strike.at; thread = strike.thread }
+
 -- the hit that is told: the first of a breakpoint of a source, else of a function, else of an exception, else of a step
-abbrev pub stop_among : Wishes → List Halt → Option Halt
-stop_among wishes hits = first_with (is_at_line wishes) hits
-    (first_with is_breakpoint hits (first_with is_thrown hits (first_of hits)))
+abbrev pub stop_among : List Strike → List Halt → Option Halt
+stop_among stops hits =
+    option_or (option_map halt_at (strike_told stops)) (first_with is_thrown hits (first_of hits))
+
+-- The breakpoints that stop at a place, in order of their ids, each once (DAP specification, Events, Stopped,
+-- hitBreakpointIds).
+abbrev pub stopping_at : Location → List Strike → List EntryAt
+stopping_at at stops = fold (insert_key (on (λ entry. entry.id) nat_cmp)) []
+    (map (λ strike. strike.entry) (filter (λ strike. is_wish (wish.Stop at) (wish.Stop strike.at)) stops))
 
 -- What was thrown under an event request that is installed, and whether something catches it: nothing does, where the
 -- class of the place where it is caught is null (JDWP, Event command set, Composite, Exception, catchLocation).
@@ -99,11 +122,12 @@ abbrev pub quiet_parts : Bool → List Part
 quiet_parts true = Part.Notes EntryHeld ∷ []
 quiet_parts false = Part.Sends (Resume of_composite) ∷ []
 
--- how a hit is told: of what was thrown the type is looked up first
-abbrev pub told_part : HaltCause → ThreadId → Part
-told_part (came_to at) thread = Part.Tells (a_stop (record { cause = Hit at; thread = thread }))
-told_part (threw object) thread = Part.Looks (exception_text thread object)
-told_part has_stepped thread = Part.Tells (a_stop (record { cause = by_step; thread = thread }))
+-- how a hit is told: a breakpoint with all that stop there; of what was thrown the type is looked up first
+abbrev pub told_part : List Strike → HaltCause → ThreadId → Part
+told_part stops (came_to at) thread =
+    Part.Tells (a_stop (record { cause = Hit (stopping_at at stops); thread = thread }))
+told_part stops (threw object) thread = Part.Looks (exception_text thread object)
+told_part stops has_stepped thread = Part.Tells (a_stop (record { cause = by_step; thread = thread }))
 
 -- with no stop in hand a hit begins one, and its suspension is held; else the stop goes on, and the suspension that it has
 -- too much is undone
@@ -113,17 +137,17 @@ surplus true = Part.Sends (Resume of_composite) ∷ []
 
 -- What was thrown is written down, a step that is in flight is cleared, and the hit is told (DAP specification, Events,
 -- Stopped; JDWP, EventRequest command set, Clear).
-abbrev pub hit_parts : Bool → List Thrown → Halt → List Part
-hit_parts stopped thrown halt = Part.Notes (Throws thrown) ∷ Part.Notes (Steps None) ∷ Part.Updates
-    ∷ told_part halt.cause halt.thread ∷ surplus stopped
+abbrev pub hit_parts : Bool → List Thrown → List Strike → Halt → List Part
+hit_parts stopped thrown stops halt = Part.Notes (Throws thrown) ∷ Part.Notes (Steps None) ∷ Part.Updates
+    ∷ told_part stops halt.cause halt.thread ∷ surplus stopped
 
-abbrev pub decided_by : Bool → Bool → List Thrown → Option Halt → List Part
-decided_by stopped holds thrown None = quiet_parts holds
-decided_by stopped holds thrown (Some halt) = hit_parts stopped thrown halt
+abbrev pub decided_by : Bool → Bool → List Thrown → List Strike → Option Halt → List Part
+decided_by stopped holds thrown stops None = quiet_parts holds
+decided_by stopped holds thrown stops (Some halt) = hit_parts stopped thrown stops halt
 
-abbrev pub decided_of : State → List ATargetEvent → List Part
-decided_of state events = decided_by state.stopped (holds_entry state events) (thrown_in state.wishes events)
-    (stop_among state.wishes (hits_in state.wishes events))
+abbrev pub decided_of : State → List Strike → List ATargetEvent → List Part
+decided_of state stops events = decided_by state.stopped (holds_entry state events) (thrown_in state.wishes events) stops
+    (stop_among stops (hits_in state.wishes events))
 
 -- what a composite tells of; other items tell of nothing
 abbrev pub events_in : Item → List ATargetEvent
@@ -132,6 +156,18 @@ events_in (a_composite at composite) = composite.events
 events_in (a_raw at body) = []
 events_in target_end = []
 
--- as long as the session is attached
-abbrev pub decided : State → Item → List Part
-decided state item = cond (is_attached state.phase) (decided_of state (events_in item)) []
+-- what is logged is told, one text after the other, before it is decided
+abbrev pub logged_first : State → List (List ℕ) → List Strike → List ATargetEvent → List Part
+logged_first state [] stops events = decided_of state stops events
+logged_first state (text ∷ texts) stops events =
+    Part.Tells (Logged text) ∷ Part.Unfolds (Decides texts stops) ∷ []
+
+-- as long as the session is attached, where breakpoints log this, and these stop
+abbrev pub decided : State → List (List ℕ) → List Strike → Item → List Part
+decided state logged stops item =
+    cond (is_attached state.phase) (logged_first state logged stops (events_in item)) []
+
+-- before that all breakpoints that threads came to are judged
+abbrev pub judged : State → Item → List Part
+judged state item =
+    cond (is_attached state.phase) (Part.Looks (breakpoint_hits (strikes_in state.wishes (events_in item))) ∷ []) []

@@ -18,12 +18,12 @@ use Rattle.machine_model.specs.Names.{Initialized, NamedThread, News, Nothing, O
 use Rattle.machine_model.specs.Names.{Terminated, ThreadId, Told, a_response, a_stop, breakpoint_list, by_client}
 use Rattle.machine_model.specs.Names.{entry_verified, frame_list, scope_list, some_news, thread_changed, thread_list}
 use Rattle.machine_model.specs.Names.{a_value, a_written, an_exception, by_exception, by_step, variable_list}
+use Rattle.machine_model.specs.Names.{Logged}
 use Rattle.machine_model.specs.References.{things_of, with_things}
 use Rattle.machine_model.specs.State.{State, lost}
 use Rattle.machine_model.specs.Variables.{value_told, variable_told}
 use Rattle.stop_refs.specs.Numbers.{number_of, with_thing}
 use Rattle.stop_refs.specs.declared.thing.Thing.TheVariants.{Locals as some_locals}
-use Rattle.wish_sets.specs.Entries.{entries_at}
 use Rattle.wish_sets.specs.declared.entry.EntryAt.{EntryAt}
 
 -- Numbers of threads --------------------------------------------------------------------------------------------------
@@ -125,6 +125,7 @@ after_event (some_news news) state =
     record state { bound = bound_after news state.bound; threads = threads_after news state.threads }
 after_event (a_stop stopping) state =
     record state { threads = with_thread state.threads stopping.thread; stopped = true }
+after_event (Logged text) state = state
 after_event Terminated state = record (lost state) { terminated = true }
 
 -- and how it is told then: a thread by its number
@@ -140,7 +141,7 @@ hit_told entries = cond (list_any (λ entry. entry.line) entries) (reasons.Break
     (reasons.FunctionBreakpoint (map (λ entry. entry.id) entries))
 
 abbrev pub reason_told : StopCause → State → StopReason
-reason_told (Hit at) state = hit_told (entries_at state.wishes.wanted at)
+reason_told (Hit entries) state = hit_told entries
 reason_told (by_exception text) state = reasons.Exception text
 reason_told by_step state = reasons.Step
 reason_told by_client state = reasons.Pause
@@ -152,4 +153,5 @@ event_told (a_stop stopping) state = events.Stopped (record {
   reason = reason_told stopping.cause state;
   thread = number_among state.threads stopping.thread;
 })
+event_told (Logged text) state = events.Output text
 event_told Terminated state = events.Terminated

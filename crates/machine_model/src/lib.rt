@@ -6,12 +6,14 @@ mod acts;
 mod items;
 mod options;
 mod parts;
+mod texts;
 
 pub use acts::{Act, Doing, Effect, Sent, TargetCommand, Want};
 pub use items::{Item, Phase};
 pub use options::ClientOptions;
 pub use parts::{
-    Body, Choice, Deed, Event, Finding, Finish, Guard, Halt, HaltCause, ListedBreakpoint, Lookup,
-    NamedThread, News, Note, Outcome, Part, Seen, ShownFrame, ShownVariable, Spot, StopCause,
-    Stopping, Store, Suspension, Thrown, Write,
+    Body, Choice, Deed, Event, Finding, Finish, Guard, Halt, HaltCause, Judgement,
+    ListedBreakpoint, Lookup, NamedThread, News, Note, Outcome, Part, RuleText, Ruled, Seen,
+    ShownFrame, ShownVariable, Spot, StopCause, Stopping, Store, Strike, Suspension, Thrown, Write,
 };
+pub use texts::Texts;

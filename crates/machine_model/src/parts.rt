@@ -1,12 +1,14 @@
 //! What an item does, part by part.
 
 use crate::options::ClientOptions;
+use crate::texts::Texts;
+use break_rules::{Condition, Hit, Template};
 use dap_messages::{BreakMode, Failure, Filter, Source};
 use field_exprs::Expr;
 use jdwp_values::{ClassId, FieldId, FrameId, Location, ObjectId, ThreadId, Value};
 use stop_refs::{FrameThing, Thing};
 use wire_core::{Blob, List, Text};
-use wish_sets::{FunctionEntry, LineEntry, StepWish, VerifiedEntry};
+use wish_sets::{EntryAt, FunctionEntry, LineEntry, StepWish, VerifiedEntry};
 
 /// A thread, and the name that the target gave it (JDWP, ThreadReference command set, Name).
 #[derive(Drop)]
@@ -23,6 +25,14 @@ pub struct ListedBreakpoint {
     pub id: u64,
     pub line: Option<u32>,
     pub plain: bool,
+}
+
+/// A thread came to a place where this breakpoint stands (JDWP, Event command set, Composite, Breakpoint).
+#[derive(Clone, Copy, PartialEq, Eq)]
+pub struct Strike {
+    pub thread: ThreadId,
+    pub at: Location,
+    pub entry: EntryAt,
 }
 
 /// Where a frame stands: in this source, at this line as the target counts lines (DAP specification, Types, StackFrame,
@@ -56,6 +66,35 @@ pub struct Seen {
 pub struct ShownVariable {
     pub name: Text,
     pub seen: Seen,
+}
+
+/// One of the three texts that rule a breakpoint (DAP specification, Types, SourceBreakpoint, condition, hitCondition and
+/// logMessage).
+#[derive(Clone, Copy, PartialEq, Eq)]
+pub enum RuleText {
+    Condition,
+    Hit,
+    Log,
+}
+
+/// What the client says of a breakpoint, by its id: its condition, its hit condition and its message to log, where it has
+/// one; and how often it was passed since it was set (DAP specification, Types, SourceBreakpoint and FunctionBreakpoint).
+#[derive(Drop)]
+pub struct Ruled {
+    pub id: u64,
+    pub condition: Option<Condition>,
+    pub hit: Option<Hit>,
+    pub log: Option<Template>,
+    pub passed: u64,
+}
+
+/// What hits come to: the breakpoints that were passed, in order, one as often as it was; the texts that are logged; and
+/// what stops (DAP specification, Types, SourceBreakpoint, condition, hitCondition and logMessage).
+#[derive(Drop)]
+pub struct Judgement {
+    pub passed: List<u64>,
+    pub logged: List<Text>,
+    pub stops: List<Strike>,
 }
 
 /// What a response that succeeds shows, by the target's ids; its numbers are given when it is told.
@@ -132,11 +171,11 @@ pub struct Thrown {
     pub caught: bool,
 }
 
-/// Why the target stands still: a breakpoint was hit at this place; an exception was thrown, with the name of its type where
-/// that is known; a step has ended; or the client asked for it (DAP specification, Events, Stopped, reason and text).
+/// Why the target stands still: a thread came to a place where these breakpoints stop it; an exception was thrown, with the
+/// name of its type where that is known; a step has ended; or the client asked for it (DAP specification, Events, Stopped, reason and text).
 #[derive(Drop)]
 pub enum StopCause {
-    Hit(Location),
+    Hit(List<EntryAt>),
     Exception(Option<Text>),
     Step,
     Pause,
@@ -154,6 +193,8 @@ pub struct Stopping {
 pub enum Event {
     Initialized,
     News(News),
+    /// A breakpoint logs this (DAP specification, Events, Output).
+    Logged(Text),
     Stopped(Stopping),
     Terminated,
 }
@@ -246,6 +287,8 @@ pub enum Lookup {
     },
     /// The type of what was thrown, for the response to `exceptionInfo` (DAP specification, ExceptionInfo request).
     Exception(Thrown),
+    /// Which of these breakpoints are passed, what they log, and which of them stop a thread.
+    Hits(List<Strike>),
     /// What has to be known of classes before breakpoints are bound in them: all classes, where a watch was set since
     /// they were listed; the source of each that is prepared and watched; the methods of those whose source is listed or
     /// that a function names, and the lines of these methods (JDWP, VirtualMachine command set, AllClasses; JDWP,
@@ -279,6 +322,13 @@ pub enum Finding {
     Exception {
         id: Text,
         mode: BreakMode,
+    },
+    /// The ids of the breakpoints that were passed, in order, one as often as it was; the texts that are logged; and what
+    /// stops.
+    Hits {
+        passed: List<u64>,
+        logged: Texts,
+        stops: List<Strike>,
     },
     /// The classes whose source is listed, or that a function names.
     Classes(List<ClassId>),
@@ -334,9 +384,12 @@ pub enum Choice {
     /// The client is told of each breakpoint that is verified now and wasn't told to be, of those with an id below this
     /// one, and then of each thread whose start or end the item tells (DAP specification, Events, Breakpoint and Thread).
     TellsNews(u64),
-    /// The composite in hand has suspended the whole target: the client is told of a stop, the suspension is held as the
-    /// entry, or it is undone (JDWP, Event command set, Composite).
-    Decides,
+    /// The composite in hand has suspended the whole target: the breakpoints that threads came to are judged (JDWP, Event
+    /// command set, Composite).
+    Judges,
+    /// They were judged. What they log is told, text by text; and where these stop the client is told of a stop, else the
+    /// suspension is held as the entry, or it is undone (JDWP, Event command set, Composite).
+    Decides { logged: Texts, stops: List<Strike> },
     /// The event request of a step was set, and the target runs on; or it was refused, and the request fails (DAP
     /// specification, Next, StepIn and StepOut requests).
     Stepped,

@@ -14,17 +14,18 @@ use Rattle.machine_model.specs.Requests.{Wishes, effect_due, effect_of}
 use Rattle.machine_model.specs.Rows.{written_by, chosen, end_parts, gone_parts, has_response, leaves, news_of}
 use Rattle.machine_model.specs.Rows.{request_parts, refused_with, stepped_by}
 use Rattle.machine_model.specs.State.{Hand, Machine, State, is_attached, is_empty, is_gone, knowing}
-use Rattle.machine_model.specs.Stops.{decided, decided_by, events_in, has_start, hits_in, stop_among, surplus}
-use Rattle.machine_model.specs.Stops.{thrown_in, told_part}
+use Rattle.machine_model.specs.Stops.{decided, decided_by, events_in, has_start, hits_in, judged, logged_first}
+use Rattle.machine_model.specs.Stops.{stop_among, surplus, thrown_in, told_part}
 use Rattle.machine_steps.specs.Names.{Written, variable_write, Attached, Choice, Clear, Command, Decides, Deed, Does}
 use Rattle.machine_steps.specs.Names.{Effect, EntryHeld, Finding, Item, Leaves, Lookup, Part, Phase, Replied, Resume}
 use Rattle.machine_steps.specs.Names.{Set, StopCause, Stopping, Suspend, TargetCommand, TellsNews, Want, a_stop}
 use Rattle.machine_steps.specs.Names.{an_effect, by_client, of_composite, of_entry, of_stop, Halt, Stepped, ThreadId}
-use Rattle.machine_steps.specs.Names.{Thrown, HaltCause, exception_text, Hit, by_step, by_exception}
+use Rattle.machine_steps.specs.Names.{Thrown, HaltCause, exception_text, Hit, by_step, by_exception, Judges, Logged}
+use Rattle.machine_steps.specs.Names.{Strike}
 use Rattle.suspend_ledger.specs.Suspensions.{suspensions_by}
 use Rattle.wish_sets.specs.Wishes.{WishChange, clears, next_change, sets}
 use Rattle.machine_model.proofs.Bools.{first_holds}
-use Rattle.machine_steps.proofs.HoldingParts.{IsHolding, may_all, may_do_so, may_front, may_stop}
+use Rattle.machine_steps.proofs.HoldingParts.{IsHolding, decides_next, may_all, may_do_so, may_front, may_stop}
 use Rattle.machine_steps.proofs.Stepping.{IsAt, Skips}
 use Rattle.machine_steps.proofs.Tables.{free_once, told_alike}
 use Rattle.machine_steps.proofs.Testing.{passed}
@@ -94,24 +95,28 @@ found_owes stopped (exception_text thread object) result state rest = by_stop st
 found_owes stopped _ result state rest = refl
 
 -- what is decided on a composite's suspension is one of three: a stop holds it, the entry does, or it is undone
-decided_owes : (state : State) (item : Item) → is_attached state.phase ≡ true
-    → owed_in state.stopped (decided state item ++ []) ≡ 1
-decided_owes state item attached = rw attached
-    (by_stop state.stopped state.configured state.entry (has_start (events_in item))
-    (thrown_in state.wishes (events_in item)) (stop_among state.wishes (hits_in state.wishes (events_in item))))
+decided_owes : (state : State) (logged : List (List ℕ)) (stops : List Strike) (item : Item)
+    → is_attached state.phase ≡ true → owed_in state.stopped (decided state logged stops item ++ []) ≡ 1
+decided_owes state logged stops item attached = rw attached (by_logged logged)
   where
     by_halt : (stopped : Bool) (cause : HaltCause) (thread : ThreadId)
-        → owed_in stopped (told_part cause thread ∷ surplus stopped) ≡ 1
+        → owed_in stopped (told_part stops cause thread ∷ surplus stopped) ≡ 1
     by_halt stopped cause thread = grind arith
 
     by_stop : (stopped configured entry starts : Bool) (thrown : List Thrown) (stop : Option Halt)
-        → owed_in stopped (decided_by stopped (cond configured false (cond entry false starts)) thrown stop ++ []) ≡ 1
+        → owed_in stopped (decided_by stopped (cond configured false (cond entry false starts)) thrown stops stop ++ []) ≡ 1
     by_stop stopped true entry starts thrown None = refl
     by_stop stopped false true starts thrown None = refl
     by_stop stopped false false true thrown None = refl
     by_stop stopped false false false thrown None = refl
     by_stop true configured entry starts thrown (Some halt) = by_halt true halt.cause halt.thread
     by_stop false configured entry starts thrown (Some halt) = by_halt false halt.cause halt.thread
+
+    by_logged : (logged : List (List ℕ))
+        → owed_in state.stopped (logged_first state logged stops (events_in item) ++ []) ≡ 1
+    by_logged [] = by_stop state.stopped state.configured state.entry (has_start (events_in item))
+        (thrown_in state.wishes (events_in item)) (stop_among stops (hits_in state.wishes (events_in item)))
+    by_logged (text ∷ texts) = refl
 
 pub chosen_owes : {m : Machine} {hand : Hand} {choice : Choice} {rest : List Part} → IsHolding m
     → IsAt m hand (Part.Unfolds choice) rest
@@ -135,13 +140,24 @@ chosen_owes {m} {hand} {choice = Stepped} {rest} h at =
         → may_all m.state.phase stopped m.state.entry (Part.Unfolds Stepped ∷ rest) ≡ true
         → owed_in stopped (stepped_by code ++ rest) ≡ owed_in stopped rest
     by_rest rest stopped code is = grind (arith, is)
-chosen_owes {m} {hand} {choice = Decides} {rest} h at = by_rest rest (is_attached m.state.phase) refl (may_front h at)
+chosen_owes {m} {hand} {choice = Judges} {rest} h at = by_rest rest (is_attached m.state.phase) refl (may_front h at)
   where
     by_rest : (rest : List Part) (attached : Bool) → is_attached m.state.phase ≡ attached
         → cond (cond attached (is_empty rest) false) (may_all m.state.phase m.state.stopped m.state.entry rest) false
         ≡ true
-        → owed_in m.state.stopped (decided m.state hand.item ++ rest) ≡ owed_in m.state.stopped rest + 1
-    by_rest [] true is may = decided_owes m.state hand.item is
+        → owed_in m.state.stopped (judged m.state hand.item ++ rest) ≡ owed_in m.state.stopped rest + 1
+    by_rest [] true is may = rw is refl
+    by_rest [] false is may = cc
+    by_rest (part ∷ rest) true is may = cc
+    by_rest (part ∷ rest) false is may = cc
+chosen_owes {m} {hand} {choice = Decides logged stops} {rest} h at =
+    by_rest rest (is_attached m.state.phase) refl (may_front h at)
+  where
+    by_rest : (rest : List Part) (attached : Bool) → is_attached m.state.phase ≡ attached
+        → cond (cond attached (is_empty rest) false) (may_all m.state.phase m.state.stopped m.state.entry rest) false
+        ≡ true
+        → owed_in m.state.stopped (decided m.state logged stops hand.item ++ rest) ≡ owed_in m.state.stopped rest + 1
+    by_rest [] true is may = decided_owes m.state logged stops hand.item is
     by_rest [] false is may = cc
     by_rest (part ∷ rest) true is may = cc
     by_rest (part ∷ rest) false is may = cc
@@ -275,14 +291,29 @@ stop_held {m} {stopping = stopping} {rest} h at =
     by_cause : (cause : StopCause) (stopped entry : Bool) (owed held : ℕ) → may_stop cause stopped rest ≡ true
         → held ≡ held_with stopped entry (cond (begins stopped cause) (owed + 1) owed)
         → (held_with true entry owed ≡ held) × (nat_lt 0 held ≡ true)
-    by_cause (Hit at) true entry owed held may is = by_hit true entry owed held is
-    by_cause (Hit at) false entry owed held may is = by_hit false entry owed held is
+    by_cause (Hit entries) true entry owed held may is = by_hit true entry owed held is
+    by_cause (Hit entries) false entry owed held may is = by_hit false entry owed held is
     by_cause (by_exception text) true entry owed held may is = by_hit true entry owed held is
     by_cause (by_exception text) false entry owed held may is = by_hit false entry owed held is
     by_cause by_step true entry owed held may is = by_hit true entry owed held is
     by_cause by_step false entry owed held may is = by_hit false entry owed held is
     by_cause by_client true entry owed held may is = (sym is, grind (arith, is))
     by_cause by_client false entry owed held may is = cc
+
+-- what is logged is told while a suspension is held
+pub logged_held : {m : Machine} {hand : Hand} {text : List ℕ} {rest : List Part} → IsHolding m
+    → IsAt m hand (Part.Tells (Logged text)) rest → nat_lt 0 (held_in m.state m.hand) ≡ true
+logged_held {m} {rest = rest} h at =
+    by_rest rest (first_holds (decides_next rest) _ (may_front h at)) (held_in m.state m.hand) (held_front at)
+  where
+    more : (stopped entry : Bool) (owed held : ℕ) → held ≡ held_with stopped entry (owed + 1) → nat_lt 0 held ≡ true
+    more stopped entry owed held is = grind (arith, is)
+
+    by_rest : (rest : List Part) → decides_next rest ≡ true → (held : ℕ)
+        → held ≡ held_with m.state.stopped m.state.entry (owed_in m.state.stopped rest) → nat_lt 0 held ≡ true
+    by_rest (Part.Unfolds (Decides logged stops) ∷ rest) next held is =
+        more m.state.stopped m.state.entry (owed_in m.state.stopped rest) held is
+    by_rest _ next held is = cc
 
 -- the entry is held
 pub entry_held : {m : Machine} {hand : Hand} {rest : List Part} → IsHolding m → IsAt m hand (Part.Notes EntryHeld) rest

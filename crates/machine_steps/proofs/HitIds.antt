@@ -1,6 +1,6 @@
 -- The ids of what halted a thread were read: they stand in the composite that is in hand.
 use Rattle.std.proofs.Common.{ℕ, zero, suc, Bool, true, false, cond, List, [], ◌∷◌, ◌++◌, Option, Some, None}
-use Rattle.std.specs.Prelude.{find, not, ◌==◌}
+use Rattle.std.specs.Prelude.{find, map, not, option_map, ◌==◌}
 use Rattle.std.specs.List.{AllByRecursion as All, flat_map}
 use Rattle.std.specs.Option.{option_or}
 use Rattle.jdwp_events.specs.declared.event.Event.{Event as ATargetEvent}
@@ -11,12 +11,15 @@ use Rattle.jdwp_values.specs.declared.value.Value.{Value}
 use Rattle.jdwp_values.specs.declared.value.Value.TheVariants as values
 use Rattle.machine_model.specs.Ids.{id_of_object, Id, ids_of_composite, ids_of_event, ids_of_value, object}
 use Rattle.machine_model.specs.Children.{object_named}
-use Rattle.machine_model.specs.Stops.{events_in, first_of, first_with, hit_by, hits_in, is_at_line, is_breakpoint}
-use Rattle.machine_model.specs.Stops.{is_live, is_thrown, stop_among, thrown_by, thrown_in}
+use Rattle.machine_model.specs.Stops.{events_in, first_of, first_strike, first_with, halt_at, hit_by, hits_in, is_live}
+use Rattle.machine_model.specs.Stops.{is_thrown, stop_among, strike_at, strike_told, strikes_by, strikes_in, thrown_by}
+use Rattle.machine_model.specs.Stops.{thrown_in}
 use Rattle.machine_model.proofs.IdRows.{all_back, all_front, all_joined}
-use Rattle.machine_model.proofs.PlanIds.{OfObject, OfThread, OfThrown, OnSome}
-use Rattle.machine_steps.specs.Names.{Halt, HaltCause, Item, ThreadId, a_composite, came_to, has_stepped, threw}
+use Rattle.machine_model.proofs.PlanIds.{OfObject, OfStrike, OfThread, OfThrown, OnSome}
+use Rattle.machine_steps.specs.Names.{Halt, HaltCause, Item, Strike, ThreadId, a_composite, came_to, has_stepped, threw}
+use Rattle.wish_sets.specs.Entries.{entries_at}
 use Rattle.wish_sets.specs.Wishes.{Wishes}
+use Rattle.wish_sets.specs.declared.entry.EntryAt.{EntryAt}
 
 -- The item in hand ----------------------------------------------------------------------------------------------------
 
@@ -75,14 +78,33 @@ one_if Good a false h = tt
 
 hit_stands : (P : Id → Type 0) (wishes : Wishes) (event : ATargetEvent) → All P (ids_of_event event)
     → All (OfHalt P) (hit_by wishes event)
-hit_stands P wishes (happened.Breakpoint request thread at) h = one_if (OfHalt P)
-    (record { cause = came_to at; thread = thread }) (is_live wishes kinds.Breakpoint request) (h.0, tt)
 hit_stands P wishes (happened.SingleStep request thread at) h = one_if (OfHalt P)
     (record { cause = has_stepped; thread = thread }) (is_live wishes kinds.SingleStep request) (h.0, tt)
 hit_stands P wishes (happened.Exception request thread at exception catch) h = one_if (OfHalt P)
     (record { cause = threw (record { 0 = object_named exception }); thread = thread })
     (is_live wishes kinds.Exception request) (exception_stands P request thread at catch exception h)
 hit_stands P wishes _ h = tt
+
+-- the thread and the place of a strike are those of its event
+strikes_stand : (P : Id → Type 0) (wishes : Wishes) (event : ATargetEvent) → All P (ids_of_event event)
+    → All (OfStrike P) (strikes_by wishes event)
+strikes_stand P wishes (happened.Breakpoint request thread at) h =
+    by_live (is_live wishes kinds.Breakpoint request) (each (entries_at wishes.wanted at))
+  where
+    each : (entries : List EntryAt) → All (OfStrike P) (map (strike_at thread at) entries)
+    each [] = tt
+    each (entry ∷ entries) = ((h.0, h.1.0, h.1.1.0), each entries)
+
+    by_live : (live : Bool) → All (OfStrike P) (map (strike_at thread at) (entries_at wishes.wanted at))
+        → All (OfStrike P) (cond live (map (strike_at thread at) (entries_at wishes.wanted at)) [])
+    by_live true k = k
+    by_live false k = tt
+strikes_stand P wishes _ h = tt
+
+pub all_strikes : (P : Id → Type 0) (wishes : Wishes) (item : Item) → ItemStands P item
+    → All (OfStrike P) (strikes_in wishes (events_in item))
+all_strikes P wishes item h =
+    each_event P (OfStrike P) (strikes_by wishes) (strikes_stand P wishes) (events_in item) (events_stand P item h)
 
 thrown_stands : (P : Id → Type 0) (wishes : Wishes) (event : ATargetEvent) → All P (ids_of_event event)
     → All (OfThrown P) (thrown_by wishes event)
@@ -112,12 +134,27 @@ either_one : {A : Type 0} (Good : A → Type 0) (one other : Option A) → OnSom
 either_one Good None other h k = k
 either_one Good (Some a) other h k = h
 
--- what holds of all hits holds of the one that is told
-pub told_halt : (Good : Halt → Type 0) (wishes : Wishes) (hits : List Halt) → All Good hits
-    → OnSome Good (stop_among wishes hits)
-told_halt Good wishes hits h =
-    with_test (is_at_line wishes) _ (with_test is_breakpoint _ (with_test is_thrown _ (first hits h)))
+-- what holds of all strikes holds of the one that is told
+pub told_strike : (Good : Strike → Type 0) (stops : List Strike) → All Good stops → OnSome Good (strike_told stops)
+told_strike Good stops h = either_one Good (find (λ strike. strike.entry.line) stops) (first_strike stops)
+    (found_one Good (λ strike. strike.entry.line) stops h) (first stops h)
   where
+    first : (stops : List Strike) → All Good stops → OnSome Good (first_strike stops)
+    first [] h = tt
+    first (strike ∷ stops) h = h.0
+
+-- what holds of all that stops holds of the hit that is told
+pub told_halt : (Struck : Strike → Type 0) (Good : Halt → Type 0)
+    → ((strike : Strike) → Struck strike → Good (halt_at strike)) → (stops : List Strike) (hits : List Halt)
+    → All Struck stops → All Good hits → OnSome Good (stop_among stops hits)
+told_halt Struck Good struck stops hits s h =
+    either_one Good (option_map halt_at (strike_told stops)) (first_with is_thrown hits (first_of hits))
+    (by_strike (strike_told stops) (told_strike Struck stops s)) (with_test is_thrown (first_of hits) (first hits h))
+  where
+    by_strike : (told : Option Strike) → OnSome Struck told → OnSome Good (option_map halt_at told)
+    by_strike None k = tt
+    by_strike (Some strike) k = struck strike k
+
     first : (hits : List Halt) → All Good hits → OnSome Good (first_of hits)
     first [] h = tt
     first (hit ∷ hits) h = h.0
@@ -127,7 +164,8 @@ told_halt Good wishes hits h =
     with_test test other also =
         either_one Good (find (λ hit. test hit.cause) hits) other (found_one Good (λ hit. test hit.cause) hits h) also
 
-pub halt_stands : (P : Id → Type 0) (wishes : Wishes) (item : Item) → ItemStands P item
-    → OnSome (OfHalt P) (stop_among wishes (hits_in wishes (events_in item)))
-halt_stands P wishes item h = told_halt (OfHalt P) wishes (hits_in wishes (events_in item))
+pub halt_stands : (P : Id → Type 0) (wishes : Wishes) (stops : List Strike) (item : Item) → All (OfStrike P) stops
+    → ItemStands P item → OnSome (OfHalt P) (stop_among stops (hits_in wishes (events_in item)))
+halt_stands P wishes stops item s h = told_halt (OfStrike P) (OfHalt P) (λ strike k. (k.0, tt)) stops
+    (hits_in wishes (events_in item)) s
     (each_event P (OfHalt P) (hit_by wishes) (hit_stands P wishes) (events_in item) (events_stand P item h))

@@ -14,8 +14,8 @@ use Rattle.machine_model.specs.Rows.{written_by, chosen, gone_parts, has_respons
 use Rattle.machine_model.specs.Rows.{request_parts, refused_with, stepped_by}
 use Rattle.machine_model.specs.Runs.{Message, Run}
 use Rattle.machine_model.specs.State.{Hand, Machine, State, is_attached, is_empty, is_gone}
-use Rattle.machine_model.specs.Stops.{decided, decided_by, events_in, has_start, hits_in, stop_among, surplus}
-use Rattle.machine_model.specs.Stops.{thrown_in, told_part}
+use Rattle.machine_model.specs.Stops.{decided, decided_by, events_in, has_start, hits_in, judged, logged_first}
+use Rattle.machine_model.specs.Stops.{stop_among, strikes_in, surplus, thrown_in, told_part}
 use Rattle.machine_model.specs.Telling.{after_event, attached_from, numbered_by}
 use Rattle.machine_model.proofs.Bools.{first_fails, second_holds}
 use Rattle.machine_steps.specs.Names.{Writes, Written, variable_write, Choice, Command, Decides, Deed, Dispose}
@@ -24,7 +24,7 @@ use Rattle.machine_steps.specs.Names.{Note, Outcome, Part, Phase, Replied, Resum
 use Rattle.machine_steps.specs.Names.{TargetCommand, TellsNews, Terminated, ThreadId, Want, a_composite, a_question}
 use Rattle.machine_steps.specs.Names.{a_raw, a_request, a_stop, an_effect, by_client, of_composite, of_entry, of_stop}
 use Rattle.machine_steps.specs.Names.{some_news, target_end, Halt, Thrown, by_step, HaltCause, Stepped, by_exception}
-use Rattle.machine_steps.specs.Names.{exception_text}
+use Rattle.machine_steps.specs.Names.{Attached, Fresh, Judges, Logged, Strike, breakpoint_hits, exception_text}
 use Rattle.machine_steps.proofs.Stepping.{IsAt, Moves, Skips, by_moves, by_runs}
 use Rattle.machine_steps.proofs.Tables.{free, free_once, told_alike}
 use Rattle.machine_steps.proofs.Testing.{Passed, same_numbered, same_replied, tested, whole}
@@ -35,6 +35,7 @@ abbrev phase_told : Event → Phase → Phase
 phase_told Initialized phase = attached_from phase
 phase_told (some_news news) phase = phase
 phase_told (a_stop stopping) phase = phase
+phase_told (Logged text) phase = phase
 phase_told Terminated phase = Gone
 
 abbrev phase_behind : Part → Phase → Phase
@@ -45,6 +46,7 @@ abbrev entry_told : Event → Bool → Bool
 entry_told Initialized entry = entry
 entry_told (some_news news) entry = entry
 entry_told (a_stop stopping) entry = entry
+entry_told (Logged text) entry = entry
 entry_told Terminated entry = false
 
 abbrev entry_noted : Note → Bool → Bool
@@ -64,15 +66,21 @@ only_resumes _ = false
 
 -- a hit that is told in a stop is a surplus, and a pause is told in its stop
 abbrev pub may_stop : StopCause → Bool → List Part → Bool
-may_stop (Hit at) stopped rest = cond stopped (only_resumes rest) true
+may_stop (Hit entries) stopped rest = cond stopped (only_resumes rest) true
 may_stop (by_exception text) stopped rest = cond stopped (only_resumes rest) true
 may_stop by_step stopped rest = cond stopped (only_resumes rest) true
 may_stop by_client stopped rest = stopped
+
+-- behind what is logged it is decided on the suspension
+abbrev pub decides_next : List Part → Bool
+decides_next (Part.Unfolds (Decides logged stops) ∷ rest) = true
+decides_next _ = false
 
 abbrev may_tell_so : Event → Bool → List Part → Bool
 may_tell_so Initialized stopped rest = true
 may_tell_so (some_news news) stopped rest = true
 may_tell_so (a_stop stopping) stopped rest = may_stop stopping.cause stopped rest
+may_tell_so (Logged text) stopped rest = decides_next rest
 may_tell_so Terminated stopped rest = true
 
 abbrev may_undo : Suspension → Bool → Bool → Bool
@@ -93,22 +101,24 @@ may_note _ entry = true
 
 abbrev may_choose : Choice → Phase → Bool → List Part → Bool
 may_choose (TellsNews below) phase stopped rest = true
-may_choose Decides phase stopped rest = cond (is_attached phase) (is_empty rest) false
+may_choose Judges phase stopped rest = cond (is_attached phase) (is_empty rest) false
+may_choose (Decides logged stops) phase stopped rest = cond (is_attached phase) (is_empty rest) false
 may_choose Stepped phase stopped rest = cond stopped (is_empty rest) false
 may_choose (Written seen) phase stopped rest = true
 may_choose (Leaves exits) phase stopped rest = true
 
--- what was thrown is told as a hit is
-abbrev may_look : Lookup → Bool → List Part → Bool
-may_look (exception_text thread object) stopped rest = cond stopped (only_resumes rest) true
-may_look _ stopped rest = true
+-- what was thrown is told as a hit is; by the breakpoints that threads came to it is decided
+abbrev may_look : Lookup → Phase → Bool → List Part → Bool
+may_look (exception_text thread object) phase stopped rest = cond stopped (only_resumes rest) true
+may_look (breakpoint_hits strikes) phase stopped rest = cond (is_attached phase) (is_empty rest) false
+may_look _ phase stopped rest = true
 
 abbrev may_part : Phase → Bool → Bool → Part → List Part → Bool
 may_part phase stopped entry (Part.Tells event) rest = may_tell_so event stopped rest
 may_part phase stopped entry (Part.Sends deed) rest = may_do_so deed stopped entry
 may_part phase stopped entry (Part.Notes note) rest = may_note note entry
 may_part phase stopped entry (Part.Unfolds choice) rest = may_choose choice phase stopped rest
-may_part phase stopped entry (Part.Looks lookup) rest = may_look lookup stopped rest
+may_part phase stopped entry (Part.Looks lookup) rest = may_look lookup phase stopped rest
 may_part phase stopped entry _ rest = true
 
 -- each part may be done where the parts before it were
@@ -159,26 +169,47 @@ found_may phase stopped entry (exception_text thread object) result state rest =
 found_may phase stopped entry _ result state rest = refl
 
 -- What is decided fits: the entry is held once, and a stop is told by a hit.
-decided_may : (phase : Phase) (state : State) (item : Item)
-    → may_all phase state.stopped state.entry (decided state item ++ []) ≡ true
-decided_may phase state item =
-    by_stop (is_attached state.phase) state.stopped state.entry state.configured (has_start (events_in item))
-    (thrown_in state.wishes (events_in item)) (stop_among state.wishes (hits_in state.wishes (events_in item)))
+decided_may : (state : State) (logged : List (List ℕ)) (stops : List Strike) (item : Item)
+    → may_all state.phase state.stopped state.entry (decided state logged stops item ++ []) ≡ true
+decided_may state logged stops item = by_phase state.phase logged
   where
-    by_halt : (stopped entry : Bool) (cause : HaltCause) (thread : ThreadId)
-        → may_all phase stopped entry (told_part cause thread ∷ surplus stopped) ≡ true
-    by_halt stopped entry cause thread = grind arith
+    by_halt : (phase : Phase) (stopped entry : Bool) (cause : HaltCause) (thread : ThreadId)
+        → may_all phase stopped entry (told_part stops cause thread ∷ surplus stopped) ≡ true
+    by_halt phase stopped entry cause thread = grind arith
 
-    by_stop : (attached stopped entry configured starts : Bool) (thrown : List Thrown) (stop : Option Halt)
+    by_stop : (phase : Phase) (stopped entry configured starts : Bool) (thrown : List Thrown) (stop : Option Halt)
         → may_all phase stopped entry
-        (cond attached (decided_by stopped (cond configured false (cond entry false starts)) thrown stop) [] ++ []) ≡ true
-    by_stop false stopped entry configured starts thrown stop = refl
-    by_stop true stopped entry true starts thrown None = refl
-    by_stop true stopped true false starts thrown None = refl
-    by_stop true stopped false false true thrown None = refl
-    by_stop true stopped false false false thrown None = refl
-    by_stop true true entry configured starts thrown (Some halt) = by_halt true entry halt.cause halt.thread
-    by_stop true false entry configured starts thrown (Some halt) = by_halt false entry halt.cause halt.thread
+        (decided_by stopped (cond configured false (cond entry false starts)) thrown stops stop ++ []) ≡ true
+    by_stop phase stopped entry true starts thrown None = refl
+    by_stop phase stopped true false starts thrown None = refl
+    by_stop phase stopped false false true thrown None = refl
+    by_stop phase stopped false false false thrown None = refl
+    by_stop phase true entry configured starts thrown (Some halt) = by_halt phase true entry halt.cause halt.thread
+    by_stop phase false entry configured starts thrown (Some halt) = by_halt phase false entry halt.cause halt.thread
+
+    by_phase : (phase : Phase) (logged : List (List ℕ)) → may_all phase state.stopped state.entry
+        (cond (is_attached phase) (logged_first state logged stops (events_in item)) [] ++ []) ≡ true
+    by_phase Fresh logged = refl
+    by_phase Gone logged = refl
+    by_phase Attached [] = by_stop Attached state.stopped state.entry state.configured (has_start (events_in item))
+        (thrown_in state.wishes (events_in item)) (stop_among stops (hits_in state.wishes (events_in item)))
+    by_phase Attached (text ∷ texts) = refl
+
+-- What is judged fits, too.
+judged_may : (state : State) (item : Item)
+    → may_all state.phase state.stopped state.entry (judged state item ++ []) ≡ true
+judged_may state item = by_phase state.phase
+  where
+    by_phase : (phase : Phase) → may_all phase state.stopped state.entry (cond (is_attached phase)
+        (Part.Looks (breakpoint_hits (strikes_in state.wishes (events_in item))) ∷ []) [] ++ []) ≡ true
+    by_phase Fresh = refl
+    by_phase Gone = refl
+    by_phase Attached = refl
+
+-- nothing stands behind
+none_behind : (attached may other : Bool) → cond (cond attached false false) may false ≡ true → other ≡ true
+none_behind true may other is = cc
+none_behind false may other is = cc
 
 chosen_may : (choice : Choice) (state : State) (hand : Hand) (rest : List Part)
     → may_all state.phase state.stopped state.entry (Part.Unfolds choice ∷ rest) ≡ true
@@ -191,13 +222,10 @@ chosen_may (Leaves exits) state hand rest is = by_phase state.phase exits ∙ is
     by_phase : (phase : Phase) (exits : Bool) → may_all state.phase state.stopped state.entry (leaves phase exits ++ rest)
         ≡ may_all state.phase state.stopped state.entry rest
     by_phase phase exits = grind arith
-chosen_may Decides state hand [] is = decided_may state.phase state hand.item
-chosen_may Decides state hand (part ∷ rest) is = none (is_attached state.phase) is
-  where
-    none : (attached : Bool) → cond (cond attached false false) (may_all state.phase state.stopped state.entry
-        (part ∷ rest)) false ≡ true
-        → may_all state.phase state.stopped state.entry (decided state hand.item ++ part ∷ rest) ≡ true
-    none attached is = grind (arith, is)
+chosen_may Judges state hand [] is = judged_may state hand.item
+chosen_may Judges state hand (part ∷ rest) is = none_behind (is_attached state.phase) _ _ is
+chosen_may (Decides logged stops) state hand [] is = decided_may state logged stops hand.item
+chosen_may (Decides logged stops) state hand (part ∷ rest) is = none_behind (is_attached state.phase) _ _ is
 chosen_may (Written seen) state hand rest is = by_code (refused_with hand.effect)
   where
     by_code : (code : Option ℕ) → may_all state.phase state.stopped state.entry (written_by seen code ++ rest) ≡ true

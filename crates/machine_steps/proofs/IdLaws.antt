@@ -21,7 +21,8 @@ use Rattle.machine_steps.specs.Names.{Clear, Deed, Does, Effect, Exit, Item, Lin
 use Rattle.machine_steps.specs.Names.{TargetCommand, Want, a_composite, a_question, an_effect, thread_list, a_stop}
 use Rattle.machine_steps.specs.Names.{some_news, thread_changed, thread_frames, Functions, Steps, Throws, Thrown, Seen}
 use Rattle.machine_steps.specs.Names.{exception_info, exception_text, Body, ShownVariable, a_value, container_children}
-use Rattle.machine_steps.specs.Names.{expression_value, frame_list, scope_list, variable_list}
+use Rattle.machine_steps.specs.Names.{expression_value, frame_list, scope_list, variable_list, Decides, Strike}
+use Rattle.machine_steps.specs.Names.{breakpoint_hits}
 use Rattle.machine_steps.proofs.Standing.{needs_sizes, IsKept, Near, OfBody, PartStands, asked_in, at_front, ids_said}
 use Rattle.machine_steps.proofs.Standing.{queue_in}
 use Rattle.wish_sets.specs.Wished.{wished}
@@ -36,7 +37,7 @@ use Rattle.stop_refs.specs.declared.thing.Thing.{Thing}
 use Rattle.stop_refs.specs.declared.thing.Thing.TheVariants as things
 use Rattle.machine_model.proofs.PlanIds.{IsAskable, IsAsked, IsReplied, IsWanted, OfNamed, OfThread, OnSome, is_sizes}
 use Rattle.machine_model.proofs.PlanIds.{OfClass, OfFrameThing, OfObject, OfShownFrame, OfSeen, OfShownVariable}
-use Rattle.machine_model.proofs.PlanIds.{OfThing, OfThrown}
+use Rattle.machine_model.proofs.PlanIds.{OfStrike, OfThing, OfThrown}
 use Rattle.std.specs.Prelude.{zero, suc}
 use Rattle.machine_model.proofs.Bools.{always}
 use Rattle.machine_steps.proofs.StandingReplies.{anew_kept, queued_near, sizes_is}
@@ -95,6 +96,9 @@ module _ (P Q : Id → Type 0) (k : (id : Id) → P id → Q id) where
   weak_write : (write : Write) → IsWrite P write → IsWrite Q write
   weak_write write h = record { of_store = weak_store write.store h.of_store; plain = h.plain }
 
+  weak_strikes : (strikes : List Strike) → All (OfStrike P) strikes → All (OfStrike Q) strikes
+  weak_strikes strikes h = all_weak (OfStrike P) (OfStrike Q) (λ strike s. (k _ s.0, k _ s.1, k _ s.2)) strikes h
+
   weak_part : (part : Part) → PartStands P part → PartStands Q part
   weak_part (Part.Responds (Success body)) h = weak_body body h
   weak_part (Part.Notes (Lines key path entries)) h = h
@@ -107,6 +111,8 @@ module _ (P Q : Id → Type 0) (k : (id : Id) → P id → Q id) where
   weak_part (Part.Looks (exception_text thread one)) h = weak_object one.0 h
   weak_part (Part.Sends (Writes write)) h = weak_write write h
   weak_part (Part.Looks (exception_info thrown)) h = weak_object thrown.object.0 h
+  weak_part (Part.Looks (breakpoint_hits strikes)) h = weak_strikes strikes h
+  weak_part (Part.Unfolds (Decides logged stops)) h = weak_strikes stops h
   weak_part (Part.Notes (Classes classes)) h = all_weak (OfClass P) (OfClass Q) (λ one. k _) classes h
   weak_part _ h = tt
 

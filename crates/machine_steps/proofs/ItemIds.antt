@@ -187,7 +187,8 @@ held_on P messages m next said h k here (Moves.notes {note = note} free at) =
     ((f.0, f.2), subst (λ (threads : List ThreadId). All (OfThread P) threads) (sym (noted_threads note m.state)) h.threads)
 held_on P messages m next said h k here (Moves.unfolds {hand} {choice} {rest} free at) =
     let f = in_front h at in
-    ((f.0, chosen_tells P choice m.state hand rest f.0 f.2), h.threads)
+    let stands = ((at_front k at).near (near_before m next said (Moves.unfolds free at) here)).parts.0 in
+    ((f.0, chosen_tells P choice m.state hand rest f.0 stands f.2), h.threads)
 held_on P messages m next said h k here (Moves.queues free is) =
     (subst (λ (held : Option Hand). HandStands P held) is h.held, h.threads)
 held_on P messages m next said h k here (Moves.asks {want = want} free room is are) =

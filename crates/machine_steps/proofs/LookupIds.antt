@@ -29,10 +29,11 @@ use Rattle.machine_steps.specs.Names.{Answer, Lookup, NamedThread, Question, Rep
 use Rattle.machine_steps.specs.Names.{an_answer, an_error, classes_found, class_facts, frames_found, thread_frames}
 use Rattle.machine_steps.specs.Names.{exception_found, exception_info, exception_text, text_found, Failure, Seen}
 use Rattle.machine_steps.specs.Names.{container_children, expression_value, no_value, value_found, variable_write}
-use Rattle.machine_steps.specs.Names.{Store, Thrown, variables_found}
+use Rattle.machine_steps.specs.Names.{Store, Thrown, breakpoint_hits, hits_found, variables_found}
 use Rattle.class_tables.specs.declared.loaded.Loaded.{Loaded}
-use Rattle.machine_model.specs.Classes.{bound_plan, class_plan, classes_plan, counts, is_keyed, keyed_plan, lines_plan}
-use Rattle.machine_model.specs.Classes.{methods_plan, package_plan, prepared_plan, source_plan, watched_plan}
+use Rattle.machine_model.specs.Classes.{bound_plan, class_plan, classes_plan, counts, early_plan, is_keyed, keyed_plan}
+use Rattle.machine_model.specs.Classes.{known_plan, lines_plan, listing_plan, methods_plan, package_plan, prepared_plan}
+use Rattle.machine_model.specs.Classes.{source_plan, watched_plan}
 use Rattle.machine_model.specs.Exceptions.{exception_plan, heard_plan, mode_of, name_by, named_plan, text_by}
 use Rattle.machine_model.specs.Exceptions.{text_plan as text_of_exception}
 use Rattle.value_views.specs.Names.{class_name}
@@ -242,14 +243,22 @@ module _ (P : Id → Type 0) (null : P (class 0)) (sight : Sight) (known : Known
       (every (OfMethod P) Any (lines_plan c) (lines_row c k) some
       (kept_all (OfMethod P) (counts keyed wanted signature) methods h)) (λ heard any. (k, tt)))
 
+  early_row : (named : Bool) (c : ClassId) → OfClass P c → Row Any (early_plan named c)
+  unfolding need
+  early_row false c k = tt
+  early_row true c k = asks Any methods_in (Want.Fact (questions.Methods c))
+      (record { ids = (k, tt); plain = refl; first = refl }) (λ heard any. tt)
+
   source_row : (wanted : Wanted) (c : ClassId) (signature : List ℕ) → OfClass P c
       → Row (All (OfClass P)) (source_plan wanted c signature)
   source_row wanted c signature k =
-      chains Any (All (OfClass P)) (asking source_in (Want.Fact (questions.SourceFile c)))
-      (λ source. keyed_plan (is_keyed wanted (key_by signature source)) wanted c signature)
+      joins Any Any (All (OfClass P)) (asking source_in (Want.Fact (questions.SourceFile c)))
+      (early_plan (is_named wanted signature None) c)
+      (λ two. keyed_plan (is_keyed wanted (key_by signature two.0)) wanted c signature)
       (asks Any source_in (Want.Fact (questions.SourceFile c))
       (record { ids = (k, tt); plain = refl; first = refl }) (λ heard any. tt))
-      (λ source any. let keyed = is_keyed wanted (key_by signature source) in
+      (early_row (is_named wanted signature None) c k)
+      (λ two any. let keyed = is_keyed wanted (key_by signature two.0) in
       bound_row (keyed || is_named wanted signature None) keyed wanted c signature k)
 
   class_row : (wanted : Wanted) (c : ClassId) (loaded : Option Loaded) → OfClass P c
@@ -279,16 +288,23 @@ module _ (P : Id → Type 0) (null : P (class 0)) (sight : Sight) (known : Known
   keys_known [] h = tt
   keys_known (entry ∷ entries) h = (h.0, keys_known entries h.1)
 
-  classes_row : (unlisted : Bool) (wanted : Wanted)
-      → Row (All (OfClass P)) (classes_plan unlisted wanted (found_in known))
-  classes_row true wanted = asks (All (OfClass P)) (λ heard. []) (Want.Must questions.AllClasses)
-      (record { ids = tt; plain = refl; first = refl }) (λ heard any. tt)
-  classes_row false wanted = makes (All (All (OfClass P))) (All (OfClass P)) joined
+  known_row : (wanted : Wanted) → Row (All (OfClass P)) (known_plan wanted (found_in known))
+  known_row wanted = makes (All (All (OfClass P))) (All (OfClass P)) joined
       (each (λ c. class_plan wanted c ((found_in known).loaded c)) (keys known.loaded))
       (every (OfClass P) (All (OfClass P)) (λ c. class_plan wanted c ((found_in known).loaded c))
       (λ c k. class_row wanted c ((found_in known).loaded c) k) (keys known.loaded)
       (keys_known known.loaded facts.loaded))
       classes_joined
+
+  classes_row : (unlisted : Bool) (wanted : Wanted)
+      → Row (All (OfClass P)) (classes_plan unlisted wanted (found_in known))
+  unfolding need
+  classes_row true wanted = joins (All (OfClass P)) (All (OfClass P)) (All (OfClass P)) listing_plan
+      (known_plan wanted (found_in known)) (λ two. gives two.0)
+      (asks (All (OfClass P)) (λ heard. []) (Want.Must questions.AllClasses)
+      (record { ids = tt; plain = refl; first = refl }) (λ heard any. tt))
+      (known_row wanted) (λ two good. good.0)
+  classes_row false wanted = known_row wanted
 
   -- frames are asked of a thread that was read, and their classes and methods are those in the answer
   abbrev HasFrames : ThreadId → Option Answer → Type 0
@@ -1002,6 +1018,8 @@ module _ (P : Id → Type 0) (null : P (class 0)) (sight : Sight) (known : Known
   rows_stand (variable_write thing name text) state same of = write_row _ thing of name
   rows_stand (exception_text thread one) state same of = exception_text_row one.0 of
   rows_stand (exception_info thrown) state same of = exception_row thrown of
+  rows_stand (breakpoint_hits strikes) state same of =
+      gives_row (IsGood P) (hits_found (map (λ strike. strike.entry.id) strikes) [] strikes) of
   rows_stand class_facts state same of =
       subst (λ (k : Known). Row (IsGood P) (made_with classes_found
       (classes_plan state.unlisted state.wishes.wanted (found_in k)))) (sym same)

@@ -86,7 +86,7 @@ found_mute lookup result state is = grind (arith, is)
 
 abbrev pub tells_more : Choice → Bool
 tells_more (TellsNews below) = true
-tells_more Decides = true
+tells_more (Decides logged stops) = true
 tells_more _ = false
 
 pub chosen_mute : (choice : Choice) (state : State) (hand : Hand) → tells_more choice ≡ false

@@ -13,6 +13,7 @@ use Rattle.machine_model.specs.State.{Hand, Machine, State, is_attached, is_gone
 use Rattle.machine_steps.specs.Names.{Written, Attached, Choice, Clear, Command, Does, Effect, Finding, Fresh}
 use Rattle.machine_steps.specs.Names.{Initialized, Item, Leaves, Lookup, Note, Part, Phase, Replied, Set, TellsNews}
 use Rattle.machine_steps.specs.Names.{Terminated, a_question, a_raw, a_request, a_stop, an_answer, an_effect, some_news}
+use Rattle.machine_steps.specs.Names.{Logged}
 use Rattle.machine_steps.proofs.RestLaws.{no_late}
 use Rattle.machine_steps.proofs.SizeLaws.{is_idle}
 use Rattle.machine_steps.proofs.Stepping.{IsAt, Moves, Skips, by_runs}
@@ -161,6 +162,8 @@ set_on m next said a f h (Moves.tells {hand} {rest} {event = some_news news} fre
     front_set m hand (Part.Tells (some_news news)) rest h at needs
 set_on m next said a f h (Moves.tells {hand} {rest} {event = a_stop stopping} free at) here = λ needs.
     front_set m hand (Part.Tells (a_stop stopping)) rest h at needs
+set_on m next said a f h (Moves.tells {hand} {rest} {event = Logged text} free at) here = λ needs.
+    front_set m hand (Part.Tells (Logged text)) rest h at needs
 set_on m next said a f h (Moves.tells {event = Terminated} free at) here = cc
 set_on m next said a f h (Moves.sends {hand} {rest} {deed} free at is) here = λ needs.
     front_set m hand (Part.Sends deed) rest h at needs

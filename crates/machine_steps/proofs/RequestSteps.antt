@@ -12,7 +12,8 @@ use Rattle.machine_model.specs.State.{Hand, Machine, State, is_empty, is_flying,
 use Rattle.machine_model.specs.Telling.{after_event, numbered_by}
 use Rattle.machine_steps.specs.Names.{Written, Classes, Clear, Does, Doing, Effect, Event, Lines, Note, Outcome, Part}
 use Rattle.machine_steps.specs.Names.{Phase, Question, Replied, Set, TargetCommand, Want, a_question, an_effect, Choice}
-use Rattle.machine_steps.specs.Names.{Decides, Functions, Leaves, Stepped, Steps, StopsAt, TellsNews}
+use Rattle.machine_steps.specs.Names.{Decides, Functions, Judges, Leaves, Lookup, Stepped, Steps, StopsAt, TellsNews}
+use Rattle.machine_steps.specs.Names.{breakpoint_hits}
 use Rattle.machine_steps.proofs.RestLaws.{is_free}
 use Rattle.machine_steps.proofs.Stepping.{Moves}
 use Rattle.machine_steps.proofs.Tables.{is_updates, attaches, rewants, starts_updates}
@@ -136,13 +137,20 @@ is_deed (Clear wish request) = false
 -- by what is set it is decided how the item goes on
 abbrev pub is_choice : Choice → Bool
 is_choice (TellsNews below) = false
-is_choice Decides = true
+is_choice Judges = true
+is_choice (Decides logged stops) = true
 is_choice Stepped = true
 is_choice (Written seen) = false
 is_choice (Leaves exits) = false
 
+-- and the breakpoints that threads came to are judged by it
+abbrev pub is_judging : Lookup → Bool
+is_judging (breakpoint_hits strikes) = true
+is_judging _ = false
+
 abbrev pub decides : Part → Bool
 decides (Part.Unfolds choice) = is_choice choice
+decides (Part.Looks lookup) = is_judging lookup
 decides _ = false
 
 -- all that is wished has to be set by now: the session is attached, or it is before `updates`

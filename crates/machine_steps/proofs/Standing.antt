@@ -13,10 +13,10 @@ use Rattle.machine_model.specs.Runs.{Message}
 use Rattle.machine_model.specs.Spelling.{all_sizes, first_sizes, sizes_by, sizes_replied}
 use Rattle.machine_model.specs.State.{State, Hand, Machine, SizesRead, is_attached, is_gone, is_some}
 use Rattle.machine_model.proofs.PlanIds.{AreKnown, IsAsked, IsWanted, OfClass, OfFrameThing, OfLookup, OfNamed}
-use Rattle.machine_model.proofs.PlanIds.{OfShownFrame, OfSeen, OfShownVariable, OnSome, is_sizes}
+use Rattle.machine_model.proofs.PlanIds.{OfShownFrame, OfSeen, OfShownVariable, OfStrike, OnSome, is_sizes}
 use Rattle.machine_steps.specs.Names.{Writes, Body, Classes, Failed, IdSizes, Initialized, Lines, Outcome, Part, Sent}
 use Rattle.machine_steps.specs.Names.{Success, TargetCommand, Want, a_question, an_effect, frame_list, scope_list}
-use Rattle.machine_steps.specs.Names.{thread_list, a_value, variable_list, Functions, Steps}
+use Rattle.machine_steps.specs.Names.{thread_list, a_value, variable_list, Choice, Decides, Functions, Steps}
 use Rattle.machine_steps.proofs.RequestSteps.{is_choice, parts_left}
 use Rattle.machine_steps.proofs.Stepping.{IsAt, with_said}
 use Rattle.machine_steps.proofs.WishIds.{AreWished, IsShortFunction, IsShortKey, OfStep}
@@ -44,6 +44,11 @@ abbrev pub OfOutcome : (Id → Type 0) → Outcome → Type 0
 OfOutcome P (Success body) = OfBody P body
 OfOutcome P (Failed failure) = Unit {0}
 
+-- what a choice has: what stops
+abbrev pub ChoiceStands : (Id → Type 0) → Choice → Type 0
+ChoiceStands P (Decides logged stops) = All (OfStrike P) stops
+ChoiceStands P _ = Unit {0}
+
 -- and what a part has
 abbrev pub PartStands : (Id → Type 0) → Part → Type 0
 PartStands P (Part.Responds outcome) = OfOutcome P outcome
@@ -51,6 +56,7 @@ PartStands P (Part.Notes (Lines key path entries)) = IsShortKey key
 PartStands P (Part.Notes (Functions entries)) = All IsShortFunction entries
 PartStands P (Part.Notes (Steps step)) = OnSome (OfStep P) step
 PartStands P (Part.Looks lookup) = OfLookup P lookup
+PartStands P (Part.Unfolds choice) = ChoiceStands P choice
 PartStands P (Part.Sends deed) = OfDeed P deed
 PartStands P (Part.Notes (Classes classes)) = All (OfClass P) classes
 PartStands P _ = Unit {0}

@@ -17,7 +17,8 @@ use Rattle.machine_steps.specs.Names.{Body, Scopes, StackTrace, Variables, conta
 use Rattle.machine_steps.specs.Names.{Evaluate, SetVariable, expression_value, no_value, thread_frames, value_found}
 use Rattle.machine_steps.specs.Names.{variables_found, ExceptionInfo, Functions, Halt, HaltCause, Next}
 use Rattle.machine_steps.specs.Names.{SetExceptionBreakpoints, SetFunctionBreakpoints, StepIn, StepOut, Stepped, Steps}
-use Rattle.machine_steps.specs.Names.{StopsAt, Thrown, exception_info, threw}
+use Rattle.machine_steps.specs.Names.{Judges, StopsAt, Thrown, breakpoint_hits, came_to, exception_info, has_stepped}
+use Rattle.machine_steps.specs.Names.{hits_found, threw}
 use Rattle.dap_messages.specs.Telling.{references_spent}
 use Rattle.machine_model.specs.Plans.{Need, fails, has, lacks}
 use Rattle.machine_model.specs.Replying.{done_by}
@@ -35,13 +36,13 @@ use Rattle.machine_model.proofs.IdRows.{all_joined}
 use Rattle.machine_model.proofs.PlanIds.{AreKnown, IsAsked, IsGood, NeedStands, OfFrameThing, OfLookup, OfThing}
 use Rattle.machine_model.proofs.PlanIds.{OfThread, OfThrown, OnSome}
 use Rattle.machine_model.specs.Outcomes.{result_of}
-use Rattle.machine_model.specs.Stops.{decided, decided_by, events_in, hits_in, holds_entry, stop_among, surplus}
-use Rattle.machine_model.specs.Stops.{thrown_in, told_part}
+use Rattle.machine_model.specs.Stops.{decided, decided_by, events_in, hits_in, holds_entry, judged, logged_first}
+use Rattle.machine_model.specs.Stops.{stop_among, strikes_in, surplus, thrown_in, told_part}
 use Rattle.machine_steps.proofs.LookupIds.{rows_stand}
 use Rattle.machine_steps.proofs.Stepping.{IsAt, Skips}
-use Rattle.machine_steps.proofs.Standing.{IsKept, Kept, Near, OfBody, OfOutcome, PartStands, Same, at_front, in_order}
+use Rattle.machine_steps.proofs.Standing.{ChoiceStands, IsKept, Kept, Near, OfBody, OfOutcome, PartStands, Same, at_front, in_order}
 use Rattle.machine_steps.proofs.Standing.{same_state, awaits_sizes, needs_sizes, stays}
-use Rattle.machine_steps.proofs.HitIds.{ItemStands, OfCause, OfHalt, found_one, halt_stands}
+use Rattle.machine_steps.proofs.HitIds.{ItemStands, OfCause, OfHalt, all_strikes, found_one, halt_stands}
 use Rattle.machine_steps.proofs.Tables.{told_alike}
 use Rattle.dap_messages.specs.declared.requests.FunctionBreakpoint.{FunctionBreakpoint}
 use Rattle.machine_model.specs.Breakpoints.{functions_from, behind_roots, key_of, longest_key, short_key, slashed}
@@ -338,8 +339,11 @@ pub chosen_order : (choice : Choice) (state : State) (hand : Hand) (sized attach
 chosen_order (TellsNews below) state hand sized attached rest h =
     told_alike (in_order sized attached) (λ news parts. refl) state.phase
     (news_of below state hand.item) rest ∙ h
-chosen_order Decides state hand sized attached rest h = in_any_order sized attached (decided state hand.item ++ rest)
-    (sized_by sized attached (Part.Unfolds Decides) rest h refl refl)
+chosen_order Judges state hand sized attached rest h = in_any_order sized attached (judged state hand.item ++ rest)
+    (sized_by sized attached (Part.Unfolds Judges) rest h refl refl)
+chosen_order (Decides logged stops) state hand sized attached rest h =
+    in_any_order sized attached (decided state logged stops hand.item ++ rest)
+    (sized_by sized attached (Part.Unfolds (Decides logged stops)) rest h refl refl)
 chosen_order Stepped state hand sized attached rest h =
     in_any_order sized attached (stepped_by (refused_with hand.effect) ++ rest)
     (sized_by sized attached (Part.Unfolds Stepped) rest h refl refl)
@@ -350,44 +354,56 @@ chosen_order (Written seen) state hand sized attached rest h = by_code (refused_
 chosen_order (Leaves exits) state hand sized attached rest h = grind (arith, h)
 
 pub chosen_parts : (P : Id → Type 0) (choice : Choice) (state : State) (hand : Hand) (rest : List Part)
-    → ItemStands P hand.item → All (PartStands P) rest → All (PartStands P) (chosen choice state hand ++ rest)
-chosen_parts P (TellsNews below) state hand rest item h =
+    → ItemStands P hand.item → ChoiceStands P choice → All (PartStands P) rest
+    → All (PartStands P) (chosen choice state hand ++ rest)
+chosen_parts P (TellsNews below) state hand rest item s h =
     by_news state.phase (news_of below state hand.item)
   where
     by_news : (phase : Phase) (news : List News) → All (PartStands P) (told_in phase news ++ rest)
     by_news Attached (one ∷ news) = (tt, by_news Attached news)
     by_news _ _ = h
-chosen_parts P Decides state hand rest item h =
-    by_stop (is_attached state.phase) state.stopped (holds_entry state (events_in hand.item))
-    (thrown_in state.wishes (events_in hand.item))
-    (stop_among state.wishes (hits_in state.wishes (events_in hand.item))) (halt_stands P state.wishes hand.item item)
+chosen_parts P Judges state hand rest item s h = by_phase (is_attached state.phase)
   where
-    told : (cause : HaltCause) (thread : ThreadId) → OfCause P cause → PartStands P (told_part cause thread)
+    by_phase : (attached : Bool) → All (PartStands P) (cond attached
+        (Part.Looks (breakpoint_hits (strikes_in state.wishes (events_in hand.item))) ∷ []) [] ++ rest)
+    by_phase false = h
+    by_phase true = (all_strikes P state.wishes hand.item item, h)
+chosen_parts P (Decides logged stops) state hand rest item s h = by_phase (is_attached state.phase) logged
+  where
+    told : (cause : HaltCause) (thread : ThreadId) → OfCause P cause → PartStands P (told_part stops cause thread)
     told (threw one) thread k = k
-    told _ thread k = tt
+    told (came_to at) thread k = tt
+    told has_stepped thread k = tt
 
     by_surplus : (stopped : Bool) → All (PartStands P) (surplus stopped ++ rest)
     by_surplus false = h
     by_surplus true = (tt, h)
 
-    by_stop : (attached stopped holds : Bool) (thrown : List Thrown) (stop : Option Halt) → OnSome (OfHalt P) stop
-        → All (PartStands P) (cond attached (decided_by stopped holds thrown stop) [] ++ rest)
-    by_stop false stopped holds thrown stop hit = h
-    by_stop true stopped true thrown None hit = (tt, h)
-    by_stop true stopped false thrown None hit = (tt, h)
-    by_stop true stopped holds thrown (Some halt) hit =
+    by_stop : (stopped holds : Bool) (thrown : List Thrown) (stop : Option Halt) → OnSome (OfHalt P) stop
+        → All (PartStands P) (decided_by stopped holds thrown stops stop ++ rest)
+    by_stop stopped true thrown None hit = (tt, h)
+    by_stop stopped false thrown None hit = (tt, h)
+    by_stop stopped holds thrown (Some halt) hit =
         (tt, (tt, (tt, (told halt.cause halt.thread hit.1, by_surplus stopped))))
-chosen_parts P Stepped state hand rest item h = by_code (refused_with hand.effect)
+
+    by_phase : (attached : Bool) (logged : List (List ℕ)) → All (PartStands P)
+        (cond attached (logged_first state logged stops (events_in hand.item)) [] ++ rest)
+    by_phase false logged = h
+    by_phase true [] = by_stop state.stopped (holds_entry state (events_in hand.item))
+        (thrown_in state.wishes (events_in hand.item)) (stop_among stops (hits_in state.wishes (events_in hand.item)))
+        (halt_stands P state.wishes stops hand.item s item)
+    by_phase true (text ∷ texts) = (tt, (s, h))
+chosen_parts P Stepped state hand rest item s h = by_code (refused_with hand.effect)
   where
     by_code : (code : Option ℕ) → All (PartStands P) (stepped_by code ++ rest)
     by_code None = (tt, (tt, h))
     by_code (Some code) = (tt, (tt, (tt, h)))
-chosen_parts P (Written seen) state hand rest item h = by_code (refused_with hand.effect)
+chosen_parts P (Written seen) state hand rest item s h = by_code (refused_with hand.effect)
   where
     by_code : (code : Option ℕ) → All (PartStands P) (written_by seen code ++ rest)
     by_code None = (tt, h)
     by_code (Some code) = (tt, h)
-chosen_parts P (Leaves exits) state hand rest item h = by_phase state.phase exits
+chosen_parts P (Leaves exits) state hand rest item s h = by_phase state.phase exits
   where
     by_phase : (phase : Phase) (exits : Bool) → All (PartStands P) (leaves phase exits ++ rest)
     by_phase Attached true = (tt, h)
@@ -422,6 +438,7 @@ found_parts P (container_children thing filter start count) found state h = (out
 found_parts P (expression_value one expression) found state h = (value_good P state.numbers found h, tt)
 found_parts P (variable_write thing name text) (has (write_found write seen)) state h = (h, (tt, tt))
 found_parts P class_facts (has (classes_found classes)) state h = (h, tt)
+found_parts P (breakpoint_hits strikes) (has (hits_found passed logged stops)) state h = (h, tt)
 found_parts P _ _ state h = (tt, tt)
 
 -- Parts that need the sizes -------------------------------------------------------------------------------------------

@@ -76,7 +76,7 @@ kept_on {P} messages m next said null w k (Moves.unfolds {hand} {choice} {rest} 
     (λ near n. record {
       wanted = n.wanted;
       order = chosen_order choice m.state hand (is_some m.state.sizes) (is_attached m.state.phase) rest n.order;
-      parts = chosen_parts P choice m.state hand rest (in_front (w near) at).0 n.parts.1;
+      parts = chosen_parts P choice m.state hand rest (in_front (w near) at).0 n.parts.0 n.parts.1;
     })
 kept_on messages m next said null w k (Moves.queues free is) brought = queued_kept m null k free is
 kept_on messages m next said null w k (Moves.asks free room is are) brought = asked_kept m k is are

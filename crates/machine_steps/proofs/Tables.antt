@@ -1,19 +1,20 @@
 -- What the tables' lists of parts pass: the one place that a new request, note, choice or look-up is added to.
-use Rattle.std.proofs.Common.{◌≡◌, Bool, true, false, cond, not, ◌||◌, List, [], ◌∷◌, ◌++◌, Option, refl, arith, ◌∙◌}
-use Rattle.std.proofs.Common.{Some, None}
+use Rattle.std.proofs.Common.{◌≡◌, ℕ, Bool, true, false, cond, not, ◌||◌, List, [], ◌∷◌, ◌++◌, Option, refl, arith}
+use Rattle.std.proofs.Common.{Some, None, ◌∙◌}
 use Rattle.machine_model.specs.Lookups.{finished, lookup_responds}
 use Rattle.machine_steps.specs.Names.{Attached, Choice, Classes, Command, Decides, EntryHeld, Failure, Finding}
 use Rattle.machine_steps.specs.Names.{Initialized, Item, Leaves, Lines, Lookup, News, Note, Part, Phase, Resume}
 use Rattle.machine_steps.specs.Names.{Stopping, TellsNews, Terminated, a_raw, a_request, a_stop, by_step, came_to}
 use Rattle.machine_steps.specs.Names.{class_facts, exception_text, has_stepped, of_composite, some_news, threw}
-use Rattle.machine_steps.specs.Names.{Functions, Halt, HaltCause, Hit, Steps, StopsAt, ThreadId, Throws, Thrown}
+use Rattle.machine_steps.specs.Names.{Functions, Halt, HaltCause, Hit, Judges, Logged, Steps, StopsAt, Strike, ThreadId}
+use Rattle.machine_steps.specs.Names.{Throws, Thrown, breakpoint_hits}
 use Rattle.jdwp_values.specs.declared.id.ObjectId.{ObjectId}
 use Rattle.machine_model.specs.Plans.{Result}
 use Rattle.machine_model.specs.Rows.{choice_responds, chosen, each_told, failure_of, gone_parts, has_response, news_of}
 use Rattle.machine_model.specs.Rows.{is_response, told_in, parts_by, parts_of, request_parts, row_of, wanting}
 use Rattle.machine_model.specs.State.{Hand, State, is_attached, is_gone}
-use Rattle.machine_model.specs.Stops.{decided, decided_by, events_in, hit_parts, hits_in, holds_entry, stop_among}
-use Rattle.machine_model.specs.Stops.{surplus, thrown_in, told_part}
+use Rattle.machine_model.specs.Stops.{decided, decided_by, events_in, hit_parts, hits_in, holds_entry, judged}
+use Rattle.machine_model.specs.Stops.{logged_first, stop_among, stopping_at, strikes_in, surplus, thrown_in, told_part}
 use Rattle.machine_model.specs.Knowing.{is_last}
 use Rattle.machine_model.proofs.Bools.{first_holds}
 use Rattle.machine_steps.proofs.Testing.{IsTest, gone_behind}
@@ -114,27 +115,43 @@ row_sound failure command state = grind arith
 -- what holds of each decision on a suspension
 pub of_decided : (P : List Part → Type 0) → P [] → P (Part.Notes EntryHeld ∷ [])
     → P (Part.Sends (Resume of_composite) ∷ [])
-    → ((stopped : Bool) (thrown : List Thrown) (halt : Halt) → P (hit_parts stopped thrown halt))
-    → (state : State) (item : Item) → P (decided state item)
-of_decided P none holds resumes stops state item =
-    by_phase (is_attached state.phase) state.stopped (holds_entry state (events_in item))
-    (thrown_in state.wishes (events_in item)) (stop_among state.wishes (hits_in state.wishes (events_in item)))
+    → ((stopped : Bool) (thrown : List Thrown) (stops : List Strike) (halt : Halt) → P (hit_parts stopped thrown stops halt))
+    → ((text : List ℕ) (texts : List (List ℕ)) (stops : List Strike)
+    → P (Part.Tells (Logged text) ∷ Part.Unfolds (Decides texts stops) ∷ []))
+    → (state : State) (logged : List (List ℕ)) (stops : List Strike) (item : Item) → P (decided state logged stops item)
+of_decided P none holds resumes stop logs state logged stops item = by_phase (is_attached state.phase) logged
   where
-    by_phase : (attached stopped held : Bool) (thrown : List Thrown) (stop : Option Halt)
-        → P (cond attached (decided_by stopped held thrown stop) [])
-    by_phase false stopped held thrown stop = none
-    by_phase true stopped true thrown None = holds
-    by_phase true stopped false thrown None = resumes
-    by_phase true stopped held thrown (Some halt) = stops stopped thrown halt
+    by_halt : (stopped held : Bool) (thrown : List Thrown) (halt : Option Halt)
+        → P (decided_by stopped held thrown stops halt)
+    by_halt stopped true thrown None = holds
+    by_halt stopped false thrown None = resumes
+    by_halt stopped held thrown (Some halt) = stop stopped thrown stops halt
+
+    by_phase : (attached : Bool) (logged : List (List ℕ))
+        → P (cond attached (logged_first state logged stops (events_in item)) [])
+    by_phase false logged = none
+    by_phase true [] = by_halt state.stopped (holds_entry state (events_in item))
+        (thrown_in state.wishes (events_in item)) (stop_among stops (hits_in state.wishes (events_in item)))
+    by_phase true (text ∷ texts) = logs text texts stops
+
+-- what holds of each composite that is judged
+pub of_judged : (P : List Part → Type 0) → P [] → ((strikes : List Strike) → P (Part.Looks (breakpoint_hits strikes) ∷ []))
+    → (state : State) (item : Item) → P (judged state item)
+of_judged P none looks state item = by_phase (is_attached state.phase)
+  where
+    by_phase : (attached : Bool)
+        → P (cond attached (Part.Looks (breakpoint_hits (strikes_in state.wishes (events_in item))) ∷ []) [])
+    by_phase false = none
+    by_phase true = looks (strikes_in state.wishes (events_in item))
 
 -- what holds of each part that tells of a stop
 pub of_told : (P : Part → Type 0) → ((stopping : Stopping) → P (Part.Tells (a_stop stopping)))
-    → ((thread : ThreadId) (object : ObjectId) → P (Part.Looks (exception_text thread object))) → (halt : Halt)
-    → P (told_part halt.cause halt.thread)
-of_told P tells looks halt = by_cause halt.cause
+    → ((thread : ThreadId) (object : ObjectId) → P (Part.Looks (exception_text thread object))) → (stops : List Strike)
+    (halt : Halt) → P (told_part stops halt.cause halt.thread)
+of_told P tells looks stops halt = by_cause halt.cause
   where
-    by_cause : (cause : HaltCause) → P (told_part cause halt.thread)
-    by_cause (came_to at) = tells (record { cause = Hit at; thread = halt.thread })
+    by_cause : (cause : HaltCause) → P (told_part stops cause halt.thread)
+    by_cause (came_to at) = tells (record { cause = Hit (stopping_at at stops); thread = halt.thread })
     by_cause (threw object) = looks halt.thread object
     by_cause has_stepped = tells (record { cause = by_step; thread = halt.thread })
 
@@ -147,17 +164,27 @@ pub decided_alike : {A : Type 0} (f : List Part → A)
     → f (Part.Looks (exception_text thread object) ∷ parts) ≡ f parts)
     → ((parts : List Part) → f (Part.Sends (Resume of_composite) ∷ parts) ≡ f parts)
     → ((parts : List Part) → f (Part.Notes EntryHeld ∷ parts) ≡ f parts)
-    → (state : State) (item : Item) (rest : List Part) → f (decided state item ++ rest) ≡ f rest
-decided_alike f clears stops looks resumes holds state item rest =
+    → ((text : List ℕ) (texts : List (List ℕ)) (strikes : List Strike) (parts : List Part)
+    → f (Part.Tells (Logged text) ∷ Part.Unfolds (Decides texts strikes) ∷ parts) ≡ f parts)
+    → (state : State) (logged : List (List ℕ)) (strikes : List Strike) (item : Item) (rest : List Part)
+    → f (decided state logged strikes item ++ rest) ≡ f rest
+decided_alike f clears stops looks resumes holds logs state logged strikes item rest =
     of_decided (λ (parts : List Part). f (parts ++ rest) ≡ f rest) refl (holds rest) (resumes rest)
-    (λ stopped thrown halt. clears thrown (told_part halt.cause halt.thread ∷ surplus stopped ++ rest)
+    (λ stopped thrown strikes halt. clears thrown (told_part strikes halt.cause halt.thread ∷ surplus stopped ++ rest)
     ∙ of_told (λ (part : Part). f (part ∷ surplus stopped ++ rest) ≡ f (surplus stopped ++ rest))
     (λ stopping. stops stopping (surplus stopped ++ rest)) (λ thread object. looks thread object (surplus stopped ++ rest))
-    halt ∙ by_surplus stopped) state item
+    strikes halt ∙ by_surplus stopped) (λ text texts strikes. logs text texts strikes rest) state logged strikes item
   where
     by_surplus : (stopped : Bool) → f (surplus stopped ++ rest) ≡ f rest
     by_surplus false = refl
     by_surplus true = resumes rest
+
+-- and judging changes nothing to what its look-up changes nothing to
+pub judged_alike : {A : Type 0} (f : List Part → A)
+    → ((strikes : List Strike) (parts : List Part) → f (Part.Looks (breakpoint_hits strikes) ∷ parts) ≡ f parts)
+    → (state : State) (item : Item) (rest : List Part) → f (judged state item ++ rest) ≡ f rest
+judged_alike f looks state item rest =
+    of_judged (λ (parts : List Part). f (parts ++ rest) ≡ f rest) refl (λ strikes. looks strikes rest) state item
 
 told_plain : (news : List News) → are_plain (each_told news) ≡ true
 told_plain [] = refl
@@ -179,9 +206,11 @@ chosen_block (TellsNews below) state hand =
     by_phase : (phase : Phase) (news : List News) → is_block false (told_in phase news) ≡ true
     by_phase Attached news = rw (told_once news, told_silent news) (told_plain news)
     by_phase _ news = refl
-chosen_block Decides state hand =
-    of_decided (λ (parts : List Part). is_block false parts ≡ true) refl refl refl (λ stopped thrown halt. grind arith)
-    state hand.item
+chosen_block Judges state hand =
+    of_judged (λ (parts : List Part). is_block false parts ≡ true) refl (λ strikes. refl) state hand.item
+chosen_block (Decides logged stops) state hand =
+    of_decided (λ (parts : List Part). is_block false parts ≡ true) refl refl refl
+    (λ stopped thrown stops halt. grind arith) (λ text texts stops. refl) state logged stops hand.item
 chosen_block _ state hand = grind arith
 
 pub finished_block : (lookup : Lookup) (result : Result Finding) (state : State)
@@ -403,9 +432,11 @@ followed_chosen : (choice : Choice) (state : State) (hand : Hand) (rest : List P
     → are_followed (chosen choice state hand ++ rest) ≡ true
 followed_chosen (TellsNews below) state hand rest is =
     told_alike are_followed (λ news parts. refl) state.phase (news_of below state hand.item) rest ∙ is
-followed_chosen Decides state hand rest is =
+followed_chosen Judges state hand rest is =
+    judged_alike are_followed (λ strikes parts. refl) state hand.item rest ∙ is
+followed_chosen (Decides logged stops) state hand rest is =
     decided_alike are_followed (λ thrown parts. refl) (λ stopping parts. refl) (λ thread object parts. refl)
-    (λ parts. refl) (λ parts. refl) state hand.item rest ∙ is
+    (λ parts. refl) (λ parts. refl) (λ text texts strikes parts. refl) state logged stops hand.item rest ∙ is
 followed_chosen _ state hand rest is = grind (arith, is)
 
 pub followed_test : IsTest followed

@@ -1,6 +1,6 @@
 -- The ids of threads that are told were read: those in composites that are in hand, and those in answers.
 use Rattle.std.proofs.Common.{◌≡◌, Bool, true, false, cond, List, [], ◌∷◌, ◌++◌, Option, Some, None, arith, refl}
-use Rattle.std.specs.Prelude.{map, ◌==◌}
+use Rattle.std.specs.Prelude.{ℕ, map, ◌==◌}
 use Rattle.std.specs.List.{AllByRecursion as All}
 use Rattle.jdwp_events.specs.declared.event.Event.{Event as ATargetEvent}
 use Rattle.jdwp_events.specs.declared.event.Event.TheVariants as happened
@@ -13,8 +13,8 @@ use Rattle.machine_model.specs.Replying.{replied_to}
 use Rattle.machine_model.specs.Rows.{chosen, failure_of, news_of, noted, parts_of, pause_parts, row_of, taken}
 use Rattle.machine_model.specs.Rows.{thread_with, told_in, wanting}
 use Rattle.machine_model.specs.State.{Hand, State, is_attached}
-use Rattle.machine_model.specs.Stops.{decided_by, events_in, holds_entry, hits_in, stop_among, surplus, thrown_in}
-use Rattle.machine_model.specs.Stops.{told_part}
+use Rattle.machine_model.specs.Stops.{decided_by, events_in, holds_entry, hits_in, logged_first, stop_among, surplus}
+use Rattle.machine_model.specs.Stops.{thrown_in, told_part}
 use Rattle.machine_model.specs.Telling.{after_event, is_among, numbered_by, with_thread, with_threads}
 use Rattle.machine_model.proofs.IdRows.{all_joined}
 use Rattle.machine_model.proofs.PlanIds.{OfNamed, OfThread, OfThrown, OnSome}
@@ -22,9 +22,9 @@ use Rattle.machine_steps.specs.Names.{Attached, Choice, Command, Decides, Event,
 use Rattle.machine_steps.specs.Names.{News, Outcome, Part, Pause, Phase, Replied, Success, TargetCommand, TellsNews}
 use Rattle.machine_steps.specs.Names.{Terminated, ThreadId, a_composite, a_request, a_stop, Note, entry_verified}
 use Rattle.machine_steps.specs.Names.{some_news, thread_changed, thread_list, Finding, Halt, HaltCause, Throws, Thrown}
-use Rattle.machine_steps.specs.Names.{came_to, exception_text}
+use Rattle.machine_steps.specs.Names.{Logged, came_to, exception_text, has_stepped, threw}
 use Rattle.machine_steps.proofs.HitIds.{ItemStands, OfHalt, all_thrown, each_event, halt_stands}
-use Rattle.machine_steps.proofs.Standing.{PartStands}
+use Rattle.machine_steps.proofs.Standing.{ChoiceStands, PartStands}
 use Rattle.machine_steps.proofs.StandingMoves.{told_thread}
 use Rattle.machine_steps.proofs.PartTests.{all_pass, all_passing, begun_mute, chosen_mute, found_mute, is_mute}
 use Rattle.machine_steps.proofs.PartTests.{of_failure, row_mute}
@@ -39,6 +39,7 @@ abbrev OfEvent : (Id → Type 0) → Event → Type 0
 OfEvent P Initialized = Unit {0}
 OfEvent P (some_news news) = OfNews P news
 OfEvent P (a_stop stopping) = OfThread P stopping.thread
+OfEvent P (Logged text) = Unit {0}
 OfEvent P Terminated = Unit {0}
 
 -- what was thrown is looked up to be told, and is written down
@@ -156,33 +157,40 @@ verified_stand P [] changes h = h
 verified_stand P (entry ∷ entries) changes h = (tt, verified_stand P entries changes h)
 
 pub chosen_tells : (P : Id → Type 0) (choice : Choice) (state : State) (hand : Hand) (rest : List Part)
-    → ItemStands P hand.item → All (TellStands P) rest → All (TellStands P) (chosen choice state hand ++ rest)
-chosen_tells P (TellsNews below) state hand rest item h = by_news state.phase (news_of below state hand.item)
+    → ItemStands P hand.item → ChoiceStands P choice → All (TellStands P) rest
+    → All (TellStands P) (chosen choice state hand ++ rest)
+chosen_tells P (TellsNews below) state hand rest item s h = by_news state.phase (news_of below state hand.item)
     (verified_stand P (newly_verified below state.bound state.wishes) (changes_in hand.item)
     (changes_stand P hand.item item))
   where
     by_news : (phase : Phase) (news : List News) → All (OfNews P) news → All (TellStands P) (told_in phase news ++ rest)
     by_news Attached (one ∷ news) k = (k.0, by_news Attached news k.1)
     by_news _ _ k = h
-chosen_tells P Decides state hand rest item h =
-    by_stop (is_attached state.phase) state.stopped (holds_entry state (events_in hand.item))
-    (thrown_in state.wishes (events_in hand.item)) (all_thrown P state.wishes hand.item item)
-    (stop_among state.wishes (hits_in state.wishes (events_in hand.item))) (halt_stands P state.wishes hand.item item)
+chosen_tells P (Decides logged stops) state hand rest item s h = by_phase (is_attached state.phase) logged
   where
-    told : (cause : HaltCause) (thread : ThreadId) → OfThread P thread → TellStands P (told_part cause thread)
+    told : (cause : HaltCause) (thread : ThreadId) → OfThread P thread → TellStands P (told_part stops cause thread)
     told (came_to at) thread k = k
-    told _ thread k = k
+    told (threw one) thread k = k
+    told has_stepped thread k = k
 
     by_surplus : (stopped : Bool) → All (TellStands P) (surplus stopped ++ rest)
     by_surplus false = h
     by_surplus true = (tt, h)
 
-    by_stop : (attached stopped holds : Bool) (thrown : List Thrown) → All (OfThrown P) thrown → (stop : Option Halt)
-        → OnSome (OfHalt P) stop → All (TellStands P) (cond attached (decided_by stopped holds thrown stop) [] ++ rest)
-    by_stop false stopped holds thrown k stop hit = h
-    by_stop true stopped true thrown k None hit = (tt, h)
-    by_stop true stopped false thrown k None hit = (tt, h)
-    by_stop true stopped holds thrown k (Some halt) hit =
+    by_stop : (stopped holds : Bool) (thrown : List Thrown) → All (OfThrown P) thrown → (stop : Option Halt)
+        → OnSome (OfHalt P) stop → All (TellStands P) (decided_by stopped holds thrown stops stop ++ rest)
+    by_stop stopped true thrown k None hit = (tt, h)
+    by_stop stopped false thrown k None hit = (tt, h)
+    by_stop stopped holds thrown k (Some halt) hit =
         (k, (tt, (tt, (told halt.cause halt.thread hit.0, by_surplus stopped))))
-chosen_tells P choice state hand rest item h =
+
+    by_phase : (attached : Bool) (logged : List (List ℕ)) → All (TellStands P)
+        (cond attached (logged_first state logged stops (events_in hand.item)) [] ++ rest)
+    by_phase false logged = h
+    by_phase true [] = by_stop state.stopped (holds_entry state (events_in hand.item))
+        (thrown_in state.wishes (events_in hand.item)) (all_thrown P state.wishes hand.item item)
+        (stop_among stops (hits_in state.wishes (events_in hand.item)))
+        (halt_stands P state.wishes stops hand.item s item)
+    by_phase true (text ∷ texts) = (tt, (tt, h))
+chosen_tells P choice state hand rest item s h =
     all_passing is_mute (mute_tells P) (chosen choice state hand) rest (chosen_mute choice state hand refl) h

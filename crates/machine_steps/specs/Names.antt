@@ -26,12 +26,13 @@ pub use Rattle.machine_model.specs.declared.parts.Body.TheVariants.{StackFrames 
 pub use Rattle.machine_model.specs.declared.parts.Body.TheVariants.{Scopes as scope_list, Variables as variable_list}
 pub use Rattle.machine_model.specs.declared.parts.Body.TheVariants.{Value as a_value, Written as a_written}
 pub use Rattle.machine_model.specs.declared.parts.Choice.{Choice}
-pub use Rattle.machine_model.specs.declared.parts.Choice.TheVariants.{TellsNews, Decides, Stepped, Written, Leaves}
+pub use Rattle.machine_model.specs.declared.parts.Choice.TheVariants.{TellsNews, Judges, Decides, Stepped, Written}
+pub use Rattle.machine_model.specs.declared.parts.Choice.TheVariants.{Leaves}
 pub use Rattle.machine_model.specs.declared.parts.Deed.{Deed}
 pub use Rattle.machine_model.specs.declared.parts.Deed.TheVariants.{Suspend, Resume, Dispose, Exit, Writes}
 pub use Rattle.machine_model.specs.declared.parts.Event.{Event}
 pub use Rattle.machine_model.specs.declared.parts.Event.TheVariants.{Initialized, News as some_news, Terminated}
-pub use Rattle.machine_model.specs.declared.parts.Event.TheVariants.{Stopped as a_stop}
+pub use Rattle.machine_model.specs.declared.parts.Event.TheVariants.{Logged, Stopped as a_stop}
 pub use Rattle.machine_model.specs.declared.parts.Finding.{Finding}
 pub use Rattle.machine_model.specs.declared.parts.Finding.TheVariants.{Threads as threads_found}
 pub use Rattle.machine_model.specs.declared.parts.Finding.TheVariants.{Classes as classes_found}
@@ -40,7 +41,7 @@ pub use Rattle.machine_model.specs.declared.parts.Finding.TheVariants.{Variables
 pub use Rattle.machine_model.specs.declared.parts.Finding.TheVariants.{Value as value_found, NoValue as no_value}
 pub use Rattle.machine_model.specs.declared.parts.Finding.TheVariants.{Write as write_found}
 pub use Rattle.machine_model.specs.declared.parts.Finding.TheVariants.{ExceptionText as text_found}
-pub use Rattle.machine_model.specs.declared.parts.Finding.TheVariants.{Exception as exception_found}
+pub use Rattle.machine_model.specs.declared.parts.Finding.TheVariants.{Exception as exception_found, Hits as hits_found}
 pub use Rattle.machine_model.specs.declared.parts.Guard.{Guard}
 pub use Rattle.machine_model.specs.declared.parts.Guard.TheVariants.{Handshake, IdSizes}
 pub use Rattle.machine_model.specs.declared.parts.Halt.{Halt}
@@ -55,7 +56,7 @@ pub use Rattle.machine_model.specs.declared.parts.Lookup.TheVariants.{Frames as 
 pub use Rattle.machine_model.specs.declared.parts.Lookup.TheVariants.{Variables as container_children}
 pub use Rattle.machine_model.specs.declared.parts.Lookup.TheVariants.{Value as expression_value, Write as variable_write}
 pub use Rattle.machine_model.specs.declared.parts.Lookup.TheVariants.{ExceptionText as exception_text}
-pub use Rattle.machine_model.specs.declared.parts.Lookup.TheVariants.{Exception as exception_info}
+pub use Rattle.machine_model.specs.declared.parts.Lookup.TheVariants.{Exception as exception_info, Hits as breakpoint_hits}
 pub use Rattle.machine_model.specs.declared.parts.NamedThread.{NamedThread}
 pub use Rattle.machine_model.specs.declared.parts.News.{News}
 pub use Rattle.machine_model.specs.declared.parts.News.TheVariants.{Verified as entry_verified}
@@ -78,6 +79,7 @@ pub use Rattle.machine_model.specs.declared.parts.Stopping.{Stopping}
 pub use Rattle.machine_model.specs.declared.parts.Store.{Store}
 pub use Rattle.machine_model.specs.declared.parts.Store.TheVariants.{Slot as to_slot, Field as to_field}
 pub use Rattle.machine_model.specs.declared.parts.Store.TheVariants.{Element as to_element}
+pub use Rattle.machine_model.specs.declared.parts.Strike.{Strike}
 pub use Rattle.machine_model.specs.declared.parts.Suspension.{Suspension}
 pub use Rattle.machine_model.specs.declared.parts.Suspension.TheVariants.{Composite as of_composite, Entry as of_entry}
 pub use Rattle.machine_model.specs.declared.parts.Suspension.TheVariants.{Stop as of_stop}

@@ -49,7 +49,7 @@ use Rattle.machine_model.specs.declared.parts.Halt.{Halt}
 use Rattle.machine_model.specs.declared.parts.Suspension.TheVariants.{Composite as of_composite}
 use Rattle.machine_model.specs.declared.parts.Thrown.{Thrown}
 use Rattle.machine_steps.proofs.Stepping.{IsAt, Moves}
-use Rattle.machine_steps.proofs.Tables.{of_decided, of_told}
+use Rattle.machine_steps.proofs.Tables.{of_decided, of_judged, of_told}
 use Rattle.wish_sets.specs.declared.wish.Depth.{Depth}
 use Rattle.wish_sets.specs.declared.wish.Depth.TheVariants.{Into, Out, Over}
 use Rattle.jdwp_values.specs.declared.id.ThreadId.{ThreadId}
@@ -59,6 +59,7 @@ use Rattle.machine_work.specs.Names.{Decides, EntryHeld, Event, Failure, Finding
 use Rattle.machine_work.specs.Names.{Lookup, Note, Options, Outcome, Part, Pause, Phase, Roots, SetBreakpoints}
 use Rattle.machine_work.specs.Names.{ExceptionInfo, Functions, Next, Resume, Scopes, SetFunctionBreakpoints, StackTrace}
 use Rattle.machine_work.specs.Names.{StepIn, StepOut, Stepped, Steps, StopsAt, TellsNews, Throws, Variables, a_composite}
+use Rattle.machine_work.specs.Names.{Judges, Strike}
 use Rattle.machine_work.specs.Names.{a_raw, a_request, target_end}
 use Rattle.machine_work.specs.Working.{lines_in, lines_in_part, lines_listed, lines_noted, news_in_hand, news_in_item}
 use Rattle.machine_work.specs.Working.{news_left, news_waiting}
@@ -201,14 +202,15 @@ pub finished_lines : (lookup : Lookup) (result : Result Finding) (state : State)
     → lines_in (finished lookup result state) ≡ 0
 finished_lines lookup result state = grind arith
 
-hit_lines : (stopped : Bool) (thrown : List Thrown) (halt : Halt) → lines_in (hit_parts stopped thrown halt) ≡ 0
-hit_lines false thrown halt =
+hit_lines : (stopped : Bool) (thrown : List Thrown) (stops : List Strike) (halt : Halt)
+    → lines_in (hit_parts stopped thrown stops halt) ≡ 0
+hit_lines false thrown stops halt =
     of_told (λ (part : Part).
     lines_in (Part.Notes (Throws thrown) ∷ Part.Notes (Steps None) ∷ Part.Updates ∷ part ∷ []) ≡ 0)
-    (λ stopping. refl) (λ thread object. refl) halt
-hit_lines true thrown halt =
+    (λ stopping. refl) (λ thread object. refl) stops halt
+hit_lines true thrown stops halt =
     of_told (λ (part : Part). lines_in (Part.Notes (Throws thrown) ∷ Part.Notes (Steps None) ∷ Part.Updates ∷ part
-    ∷ Part.Sends (Resume of_composite) ∷ []) ≡ 0) (λ stopping. refl) (λ thread object. refl) halt
+    ∷ Part.Sends (Resume of_composite) ∷ []) ≡ 0) (λ stopping. refl) (λ thread object. refl) stops halt
 
 stepped_lines : (code : Option ℕ) → lines_in (stepped_by code) ≡ 0
 stepped_lines None = refl
@@ -226,8 +228,11 @@ chosen_lines (TellsNews below) state hand = by_phase state.phase (news_of below 
     by_phase Gone news = refl
     by_phase Attached [] = refl
     by_phase Attached (one ∷ news) = let more = by_phase Attached news in omega (arith, more)
-chosen_lines Decides state hand =
-    of_decided (λ (parts : List Part). lines_in parts ≡ 0) refl refl refl hit_lines state hand.item
+chosen_lines Judges state hand =
+    of_judged (λ (parts : List Part). lines_in parts ≡ 0) refl (λ strikes. refl) state hand.item
+chosen_lines (Decides logged stops) state hand =
+    of_decided (λ (parts : List Part). lines_in parts ≡ 0) refl refl refl hit_lines (λ text texts stops. refl)
+    state logged stops hand.item
 chosen_lines Stepped state hand = stepped_lines (refused_with hand.effect)
 chosen_lines (Written seen) state hand = written_lines seen (refused_with hand.effect)
 chosen_lines (Leaves exits) state hand = grind arith

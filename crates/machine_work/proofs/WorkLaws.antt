@@ -1,6 +1,6 @@
 -- Each act lessens what the machine can still do, but a wait and an end; and whether the next id is pending matters to
 -- questions alone.
-use Rattle.std.proofs.Common.{◌≡◌, ℕ, ◌+◌, ◌<◌, ◌≤◌, Bool, true, false, cond, not, List, [], ◌∷◌}
+use Rattle.std.proofs.Common.{◌≡◌, ℕ, ◌+◌, ◌*◌, ◌<◌, ◌≤◌, Bool, true, false, cond, not, List, [], ◌∷◌}
 use Rattle.std.proofs.Common.{◌++◌, length, Option, Some, None, refl, sym, ap, subst, ◌∙◌, option_map, nat_le, arith}
 use Rattle.std.proofs.Common.{length-append}
 use Rattle.std.proofs.lemmas.List.Concat.{flat_map-append}
@@ -10,17 +10,19 @@ use Rattle.machine_model.specs.Due.{behind_first, busy, can_read, clear, due, du
 use Rattle.machine_model.specs.Due.{is_full, lacking_more, lets, load_of, looked, newly_lacked, next_item, passed_by}
 use Rattle.machine_model.specs.Due.{pick, queued, queued_next, responded, updated, waiting, wanted, wanted_in, way}
 use Rattle.machine_model.specs.Due.Way.{passes, greets as greets_way, holds as holds_way, asks as asks_way}
-use Rattle.machine_model.specs.Lookups.{finished, found_for}
+use Rattle.machine_model.specs.Lookups.{finished, found_for, written_parts}
 use Rattle.machine_work.specs.Names.{Evaluate, SetVariable, Written}
 use Rattle.machine_work.specs.Names.{Act, Attach, Attached, BadArguments, Choice, Command, ConfigurationDone, Continue}
 use Rattle.machine_work.specs.Names.{Decides, Disconnect, Does, Effect, Event, Failure, Finding, Fresh, Gone}
 use Rattle.machine_work.specs.Names.{Initialize, Item, Leaves, Lookup, Note, Outcome, Part, Pause, Phase, Question}
 use Rattle.machine_work.specs.Names.{Scopes, SetBreakpoints, StackTrace, TargetCommand, TellsNews, Threads, Unsupported}
 use Rattle.machine_work.specs.Names.{ExceptionInfo, Next, SetExceptionBreakpoints, SetFunctionBreakpoints, StepIn, StepOut}
-use Rattle.machine_work.specs.Names.{Stepped, Steps, Throws, Variables, Want, Resume}
-use Rattle.machine_work.specs.Names.{a_composite, a_question, a_raw, a_request, an_effect, target_end}
+use Rattle.machine_work.specs.Names.{Judges, Stepped, Steps, Strike, Throws, Variables, Want, Resume}
+use Rattle.machine_work.specs.Names.{a_composite, a_question, a_raw, a_request, all_threads, an_effect, breakpoint_hits}
+use Rattle.machine_work.specs.Names.{class_facts, container_children, exception_info, exception_text}
+use Rattle.machine_work.specs.Names.{expression_value, target_end, thread_frames, variable_write}
 use Rattle.machine_model.specs.Outcomes.{result_of}
-use Rattle.machine_model.specs.Plans.{Need, Result, fails, has, lacks, question_of}
+use Rattle.machine_model.specs.Plans.{Need, Result, fails, has, lacks, need, question_of}
 use Rattle.machine_model.specs.Replying.{pending_in, pending_of, unanswered, unanswered_effect}
 use Rattle.machine_model.specs.Requests.{effect_due}
 use Rattle.jdwp_values.specs.declared.id.ThreadId.{ThreadId}
@@ -37,10 +39,11 @@ use Rattle.machine_model.specs.Rows.{variables_parts}
 use Rattle.machine_model.specs.Rows.{told_in, wanting}
 use Rattle.machine_model.specs.Runs.{Allows, Message, Run, said}
 use Rattle.machine_model.specs.State.{Hand, Machine, State, has_waiting, is_empty, is_flying, is_gone, is_raw, knowing}
-use Rattle.machine_model.specs.State.{left}
+use Rattle.machine_model.specs.State.{is_attached, left}
 use Rattle.machine_model.specs.Telling.{after_event, numbered_by}
 use Rattle.machine_model.specs.Rows.{exception_parts, refused_with, step_parts, stepped_by, stepped_thread, thrown_first}
-use Rattle.machine_model.specs.Stops.{hit_parts}
+use Rattle.machine_model.specs.Stops.{decided, decided_by, events_in, hit_parts, hits_in, holds_entry, logged_first}
+use Rattle.machine_model.specs.Stops.{stop_among, thrown_in}
 use Rattle.machine_model.specs.declared.parts.Halt.{Halt}
 use Rattle.machine_model.specs.declared.parts.Suspension.TheVariants.{Composite as of_composite}
 use Rattle.machine_model.specs.declared.parts.Thrown.{Thrown}
@@ -49,11 +52,12 @@ use Rattle.machine_steps.proofs.PendingLaws.{all_open}
 use Rattle.machine_steps.proofs.QuietLaws.{lacking_hand, load_in}
 use Rattle.machine_steps.proofs.RestLaws.{is_free, near_queue}
 use Rattle.machine_steps.proofs.Stepping.{IsAt, Moves, moved, walks_due}
-use Rattle.machine_steps.proofs.Tables.{of_decided, of_told}
+use Rattle.machine_steps.proofs.Tables.{of_judged, of_told}
 use Rattle.wish_sets.specs.declared.wish.Depth.{Depth}
 use Rattle.wish_sets.specs.declared.wish.Depth.TheVariants.{Into, Out, Over}
 use Rattle.machine_steps.proofs.TurnLaws.{Turns, turned, unsent}
-use Rattle.machine_work.specs.Working.{choice_weight, hand_work, is_wait, is_work, lines_in, news_in_hand, news_left}
+use Rattle.machine_work.specs.Working.{choice_weight, hand_work, is_wait, is_work, lines_in, lookup_weight, news_in_hand}
+use Rattle.machine_work.specs.Working.{news_left}
 use Rattle.machine_work.specs.Working.{one_if, one_unless, waiting_work, weight, weights, work, work_of}
 use Rattle.dap_messages.specs.declared.requests.StackTraceArguments.{StackTraceArguments}
 use Rattle.dap_messages.specs.declared.requests.VariablesArguments.{VariablesArguments}
@@ -179,9 +183,30 @@ sends_alone {messages} {m} r id_pending effect is =
 
 -- The tables ----------------------------------------------------------------------------------------------------------
 
-finished_light : (most : ℕ) (lookup : Lookup) (result : Result Finding) (state : State)
-    → weights most (finished lookup result state) < 10
-finished_light most lookup result state = grind arith
+writes_light : (most : ℕ) (result : Result Finding) → weights most (written_parts result) < 10
+writes_light most result = grind arith
+
+-- what judges hits logs nothing
+hits_light : (most : ℕ) (strikes : List Strike) (found : Need Finding) (state : State) (hand : Hand)
+    → found_for (breakpoint_hits strikes) state hand ≡ found
+    → weights most (finished (breakpoint_hits strikes) (result_of found) state) < 25
+unfolding need
+hits_light most strikes found state hand is =
+    subst (λ (found : Need Finding). weights most (finished (breakpoint_hits strikes) (result_of found) state) < 25)
+    is (omega arith)
+
+finished_light : (most : ℕ) (lookup : Lookup) (found : Need Finding) (state : State) (hand : Hand)
+    → found_for lookup state hand ≡ found
+    → weights most (finished lookup (result_of found) state) < lookup_weight lookup
+finished_light most (breakpoint_hits strikes) found state hand is = hits_light most strikes found state hand is
+finished_light most all_threads found state hand is = omega arith
+finished_light most (thread_frames thread start levels) found state hand is = omega arith
+finished_light most (container_children thing filter start count) found state hand is = omega arith
+finished_light most (expression_value frame expression) found state hand is = omega arith
+finished_light most (variable_write thing name text) found state hand is = writes_light most (result_of found)
+finished_light most (exception_text thread object) found state hand is = omega arith
+finished_light most (exception_info thrown) found state hand is = omega arith
+finished_light most class_facts found state hand is = omega arith
 
 leaves_light : (most : ℕ) (exits : Bool) (state : State) → weights most (leaves state.phase exits) < 10
 leaves_light most exits state = grind arith
@@ -192,16 +217,34 @@ news_light most Gone news = omega arith
 news_light most Attached [] = omega arith
 news_light most Attached (one ∷ news) = let more = news_light most Attached news in omega (arith, more)
 
-hit_light : (most : ℕ) (stopped : Bool) (thrown : List Thrown) (halt : Halt)
-    → weights most (hit_parts stopped thrown halt) < 20
-hit_light most false thrown halt =
+hit_light : (most : ℕ) (stopped : Bool) (thrown : List Thrown) (stops : List Strike) (halt : Halt)
+    → weights most (hit_parts stopped thrown stops halt) < 20
+hit_light most false thrown stops halt =
     of_told (λ (part : Part).
     weights most (Part.Notes (Throws thrown) ∷ Part.Notes (Steps None) ∷ Part.Updates ∷ part ∷ []) < 20)
-    (λ stopping. omega arith) (λ thread object. omega arith) halt
-hit_light most true thrown halt =
+    (λ stopping. omega arith) (λ thread object. omega arith) stops halt
+hit_light most true thrown stops halt =
     of_told (λ (part : Part). weights most (Part.Notes (Throws thrown) ∷ Part.Notes (Steps None) ∷ Part.Updates ∷ part
     ∷ Part.Sends (Resume of_composite) ∷ []) < 20)
-    (λ stopping. omega arith) (λ thread object. omega arith) halt
+    (λ stopping. omega arith) (λ thread object. omega arith) stops halt
+
+-- a text that is told makes what is left to tell shorter
+decided_light : (most : ℕ) (state : State) (logged : List (List ℕ)) (stops : List Strike) (item : Item)
+    → weights most (decided state logged stops item) < 20 + 2 * length logged
+decided_light most state logged stops item = by_phase (is_attached state.phase) logged
+  where
+    by_halt : (stopped holds : Bool) (thrown : List Thrown) (halt : Option Halt)
+        → weights most (decided_by stopped holds thrown stops halt) < 20
+    by_halt stopped true thrown None = omega arith
+    by_halt stopped false thrown None = omega arith
+    by_halt stopped holds thrown (Some halt) = hit_light most stopped thrown stops halt
+
+    by_phase : (attached : Bool) (logged : List (List ℕ))
+        → weights most (cond attached (logged_first state logged stops (events_in item)) []) < 20 + 2 * length logged
+    by_phase false logged = omega arith
+    by_phase true [] = by_halt state.stopped (holds_entry state (events_in item))
+        (thrown_in state.wishes (events_in item)) (stop_among stops (hits_in state.wishes (events_in item)))
+    by_phase true (text ∷ texts) = omega arith
 
 stepped_light : (most : ℕ) (code : Option ℕ) → weights most (stepped_by code) < 10
 stepped_light most None = omega arith
@@ -217,9 +260,9 @@ chosen_light : (most : ℕ) (choice : Choice) (state : State) (hand : Hand)
 chosen_light most (TellsNews below) state hand few =
     let told = news_light most state.phase (news_of below state hand.item) in
     let listed = all_news_few below state hand.item in omega (arith, few, told, listed)
-chosen_light most Decides state hand few =
-    of_decided (λ (parts : List Part). weights most parts < 20) (omega arith) (omega arith) (omega arith)
-    (hit_light most) state hand.item
+chosen_light most Judges state hand few =
+    of_judged (λ (parts : List Part). weights most parts < 30) (omega arith) (λ strikes. omega arith) state hand.item
+chosen_light most (Decides logged stops) state hand few = decided_light most state logged stops hand.item
 chosen_light most Stepped state hand few = stepped_light most (refused_with hand.effect)
 chosen_light most (Written seen) state hand few = written_light most seen (refused_with hand.effect)
 chosen_light most (Leaves exits) state hand few = leaves_light most exits state
@@ -396,7 +439,8 @@ picked_work most gone (item ∷ items) picked is =
 
 weight_fewer : (few many : ℕ) (part : Part) → few ≤ many → weight few part ≤ weight many part
 weight_fewer few many (Part.Unfolds (TellsNews below)) less = omega (arith, less)
-weight_fewer few many (Part.Unfolds Decides) less = omega arith
+weight_fewer few many (Part.Unfolds Judges) less = omega arith
+weight_fewer few many (Part.Unfolds (Decides logged stops)) less = omega arith
 weight_fewer few many (Part.Unfolds Stepped) less = omega arith
 weight_fewer few many (Part.Unfolds (Written seen)) less = omega arith
 weight_fewer few many (Part.Unfolds (Leaves exits)) less = omega arith
@@ -520,7 +564,7 @@ less_by most m next said few own (Moves.responds {hand} {rest} {outcome = outcom
     (numbered_greets outcome m.state) (omega arith)
 less_by most m next said few own (Moves.finds {hand} {rest} {lookup} found free at needs done) =
     let parts = finished lookup (result_of found) m.state in
-    let light = finished_light most lookup (result_of found) m.state in
+    let light = finished_light most lookup found m.state hand needs in
     let both = weights_joined most parts rest in
     part_less most m hand (Part.Looks lookup) rest (parts ++ rest) m.state at refl (omega (arith, light, both))
 less_by most m next said few own (Moves.passes_over {hand} {part} {rest} free at why) =

@@ -21,14 +21,21 @@ pub use Rattle.machine_model.specs.declared.items.Item.TheVariants.{Request as a
 pub use Rattle.machine_model.specs.declared.items.Phase.{Phase}
 pub use Rattle.machine_model.specs.declared.items.Phase.TheVariants.{Attached, Fresh, Gone}
 pub use Rattle.machine_model.specs.declared.parts.Choice.{Choice}
-pub use Rattle.machine_model.specs.declared.parts.Choice.TheVariants.{Decides, Leaves, Stepped, TellsNews, Written}
+pub use Rattle.machine_model.specs.declared.parts.Choice.TheVariants.{Decides, Judges, Leaves, Stepped, TellsNews, Written}
 pub use Rattle.machine_model.specs.declared.parts.Deed.TheVariants.{Resume}
 pub use Rattle.machine_model.specs.declared.parts.Event.{Event}
 pub use Rattle.machine_model.specs.declared.parts.Finding.{Finding}
 pub use Rattle.machine_model.specs.declared.parts.Lookup.{Lookup}
+pub use Rattle.machine_model.specs.declared.parts.Lookup.TheVariants.{Hits as breakpoint_hits, Threads as all_threads}
+pub use Rattle.machine_model.specs.declared.parts.Lookup.TheVariants.{Classes as class_facts, Frames as thread_frames}
+pub use Rattle.machine_model.specs.declared.parts.Lookup.TheVariants.{Variables as container_children}
+pub use Rattle.machine_model.specs.declared.parts.Lookup.TheVariants.{Value as expression_value, Write as variable_write}
+pub use Rattle.machine_model.specs.declared.parts.Lookup.TheVariants.{ExceptionText as exception_text}
+pub use Rattle.machine_model.specs.declared.parts.Lookup.TheVariants.{Exception as exception_info}
 pub use Rattle.machine_model.specs.declared.parts.Note.{Note}
 pub use Rattle.machine_model.specs.declared.parts.Note.TheVariants.{Classes, Configured, EntryHeld, Lines}
 pub use Rattle.machine_model.specs.declared.parts.Note.TheVariants.{Functions, Options, Roots}
 pub use Rattle.machine_model.specs.declared.parts.Note.TheVariants.{Exceptions as StopsAt, Step as Steps, Thrown as Throws}
 pub use Rattle.machine_model.specs.declared.parts.Outcome.{Outcome}
 pub use Rattle.machine_model.specs.declared.parts.Part.{Part}
+pub use Rattle.machine_model.specs.declared.parts.Strike.{Strike}

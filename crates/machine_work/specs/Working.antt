@@ -1,8 +1,9 @@
 -- How much a machine can still do by itself: a measure that each act lessens but a wait and an end.
 use Rattle.std.specs.Prelude.{ℕ, ◌+◌, ◌-◌, ◌*◌, Bool, true, false, List, [], ◌∷◌, length, Option, Some, None}
 use Rattle.std.specs.List.{flat_map}
-use Rattle.machine_work.specs.Names.{Act, Choice, Command, Decides, Functions, Item, Leaves, Lines, Note, Part, Sent}
-use Rattle.machine_work.specs.Names.{SetBreakpoints, SetFunctionBreakpoints, Stepped, Written, TellsNews, a_composite, a_raw, a_request, target_end}
+use Rattle.machine_work.specs.Names.{Act, Choice, Command, Decides, Functions, Item, Judges, Leaves, Lines, Lookup, Note}
+use Rattle.machine_work.specs.Names.{Part, Sent, SetBreakpoints, SetFunctionBreakpoints, Stepped, Written, TellsNews}
+use Rattle.machine_work.specs.Names.{a_composite, a_raw, a_request, breakpoint_hits, target_end}
 use Rattle.machine_model.specs.Composites.{changes_in}
 use Rattle.machine_model.specs.Replying.{unanswered}
 use Rattle.machine_model.specs.State.{Hand, Machine, is_empty, is_flying}
@@ -73,17 +74,23 @@ news_left m =
 
 -- What is left to do --------------------------------------------------------------------------------------------------
 
--- a choice weighs more than what it becomes
+-- a choice weighs more than what it becomes, a decision by the texts that are told before it
 abbrev pub choice_weight : ℕ → Choice → ℕ
 choice_weight most (TellsNews below) = 10 + most
-choice_weight most Decides = 20
+choice_weight most Judges = 30
+choice_weight most (Decides logged stops) = 20 + 2 * length logged
 choice_weight most Stepped = 10
 choice_weight most (Written seen) = 5
 choice_weight most (Leaves exits) = 10
 
+-- a look-up weighs more than what it becomes: that of hits a decision
+abbrev pub lookup_weight : Lookup → ℕ
+lookup_weight (breakpoint_hits strikes) = 25
+lookup_weight _ = 10
+
 -- a part weighs more than those that it may become, where there is at most so much news
 abbrev pub weight : ℕ → Part → ℕ
-weight most (Part.Looks lookup) = 10
+weight most (Part.Looks lookup) = lookup_weight lookup
 weight most (Part.Unfolds choice) = choice_weight most choice
 weight most (Part.Responds outcome) = 1
 weight most (Part.Tells event) = 1

@@ -82,8 +82,17 @@ abbrev pub keyed_need : Sight → Bool → Wanted → ClassId → List ℕ → C
 keyed_need sight keyed wanted class signature =
     bound_need sight (keyed || is_named wanted signature None) keyed wanted class signature
 
+-- its methods beside its source, where a function names the class
+abbrev pub early_lacking : Bool → ClassId → Option (List Method) → List Want
+early_lacking false class methods = []
+early_lacking true class methods = unless_heard methods (questions.Methods class)
+
 abbrev pub source_need : Sight → Wanted → ClassId → List ℕ → Option (Option (List ℕ)) → ClassNeed
-source_need sight wanted class signature None = lacks_fact (questions.SourceFile class)
+source_need sight wanted class signature None = record {
+  lacking = Want.Fact (questions.SourceFile class)
+      ∷ early_lacking (is_named wanted signature None) class (methods_heard sight class);
+  found = [];
+}
 source_need sight wanted class signature (Some source) =
     keyed_need sight (is_keyed wanted (key_by signature source)) wanted class signature
 

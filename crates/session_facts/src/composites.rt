@@ -171,7 +171,7 @@ fn composite_row(
         Policy::EventThread => alone(alloc, Part::Ends(Finish::OneThread(at))),
         Policy::All => {
             let mut parts = binding(alloc, below)?;
-            parts.push_back(Part::Unfolds(Choice::Decides))?;
+            parts.push_back(Part::Unfolds(Choice::Judges))?;
             Ok(parts)
         }
     }

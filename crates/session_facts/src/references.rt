@@ -128,6 +128,7 @@ pub fn body_of(finding: Finding) -> Body
         Finding::Write { .. } => Body::Nothing,
         Finding::ExceptionText(_) => Body::Nothing,
         Finding::Exception { id, mode } => Body::Exception { id, mode },
+        Finding::Hits { .. } => Body::Nothing,
         Finding::Classes(_) => Body::Nothing,
     }
 }

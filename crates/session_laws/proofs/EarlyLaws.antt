@@ -58,6 +58,7 @@ told_alike (an_event events.Initialized) a b h = (refl, h.1)
 told_alike (an_event (events.Breakpoint breakpoint)) a b h = h
 told_alike (an_event (events.Thread change)) a b h = h
 told_alike (an_event (events.Stopped stop)) a b h = h
+told_alike (an_event (events.Output text)) a b h = h
 told_alike (an_event events.Terminated) a b h = (refl, h.1)
 
 come_alike : (gone other : Bool) (composite : Composite) (a b : View) → Alike a b

@@ -28,18 +28,19 @@ use Rattle.machine_model.specs.Rows.{has_response, is_response, news_of, parts_b
 use Rattle.machine_model.specs.Rows.{request_parts, row_of, thread_with, told_in, wanting}
 use Rattle.machine_model.specs.Rows.{exception_parts, refused_with, scopes_parts, stack_parts, step_parts, stepped_by}
 use Rattle.machine_model.specs.Rows.{stepped_thread, thrown_first, variables_parts}
-use Rattle.machine_model.specs.Stops.{decided, hit_parts, holds_entry, quiet_parts}
+use Rattle.machine_model.specs.Stops.{hit_parts}
 use Rattle.machine_model.specs.declared.parts.Halt.{Halt}
 use Rattle.machine_model.specs.declared.parts.Note.TheVariants.{Step as step_noted, Thrown as thrown_noted}
+use Rattle.machine_model.specs.declared.parts.Strike.{Strike}
 use Rattle.machine_model.specs.declared.parts.Suspension.TheVariants.{Composite as of_composite}
 use Rattle.machine_model.specs.declared.parts.Thrown.{Thrown}
 use Rattle.machine_model.specs.Runs.{Message, is_disconnect}
-use Rattle.machine_model.specs.State.{Hand, Machine, State, is_attached, is_empty, knowing, left}
+use Rattle.machine_model.specs.State.{Hand, Machine, State, is_empty, knowing, left}
 use Rattle.machine_model.specs.Telling.{numbered_by, outcome_told, response_to}
 use Rattle.machine_steps.proofs.Stepping.{IsAt, Moves, Skips}
-use Rattle.machine_steps.proofs.Tables.{of_decided, of_told, told_alike}
-use Rattle.session_model.specs.Names.{Choice, Command, Decides, Finding, Item, Leaves, Lookup, Nothing, Outcome, Part}
-use Rattle.session_model.specs.Names.{Phase, Replied, Request, Stepped, Success, TargetCommand, TellsNews, Want}
+use Rattle.machine_steps.proofs.Tables.{of_decided, of_judged, of_told, told_alike}
+use Rattle.session_model.specs.Names.{Choice, Command, Decides, Finding, Item, Judges, Leaves, Lookup, Nothing, Outcome}
+use Rattle.session_model.specs.Names.{Part, Phase, Replied, Request, Stepped, Success, TargetCommand, TellsNews, Want}
 use Rattle.session_model.specs.Names.{Resume, a_composite}
 use Rattle.session_model.specs.Names.{a_question, a_raw, a_request, an_effect, finish_done, target_end}
 use Rattle.dap_messages.specs.declared.requests.Command.TheVariants.{Scopes, StackTrace, Variables}
@@ -76,9 +77,11 @@ abbrev pub is_thanks : Part → Bool
 is_thanks (Part.Responds (Success Nothing)) = true
 is_thanks _ = false
 
--- it has no place in a `disconnect` before its success: a look-up, or a response
+-- it has no place in a `disconnect` before its success: a look-up, a decision on a composite, or a response
 abbrev pub strays : Part → Bool
 strays (Part.Looks lookup) = true
+strays (Part.Unfolds Judges) = true
+strays (Part.Unfolds (Decides logged stops)) = true
 strays part = is_response part
 
 -- a `disconnect` goes on to its success, and ends directly behind it
@@ -243,12 +246,6 @@ abbrev are_silent : List Part → Bool
 are_silent [] = true
 are_silent (part ∷ parts) = cond (is_ends part) false (cond (strays part) false (are_silent parts))
 
--- with no composite in hand nothing was hit
-quiet_silent : (attached holds : Bool) → are_silent (cond attached (quiet_parts holds) []) ≡ true
-quiet_silent false holds = refl
-quiet_silent true true = refl
-quiet_silent true false = refl
-
 -- what a `disconnect` may choose
 chosen_silent : (choice : Choice) (state : State) (hand : Hand) (rest : List Part) → leaves_by hand.item ≡ true
     → to_end (Part.Unfolds choice ∷ rest) ≡ true → are_silent (chosen choice state hand) ≡ true
@@ -256,25 +253,21 @@ chosen_silent (TellsNews below) state hand rest leaving is =
     let news = news_of below state hand.item in
     ap are_silent (sym (append-nil (told_in state.phase news)))
     ∙ told_alike are_silent (λ news parts. refl) state.phase news []
-chosen_silent Decides state hand rest leaving is = by_item hand.item leaving
-  where
-    by_item : (item : Item) → leaves_by item ≡ true → are_silent (decided state item) ≡ true
-    by_item (a_request request) leaving = quiet_silent (is_attached state.phase) (holds_entry state [])
-    by_item (a_composite at composite) leaving = cc
-    by_item (a_raw at body) leaving = cc
-    by_item target_end leaving = cc
+chosen_silent Judges state hand rest leaving is = cc
+chosen_silent (Decides logged stops) state hand rest leaving is = cc
 chosen_silent Stepped state hand rest leaving is = cc
 chosen_silent (Written seen) state hand rest leaving is = cc
 chosen_silent (Leaves exits) state hand rest leaving is = grind arith
 
 -- no choice ends the session
-hit_none : (stopped : Bool) (thrown : List Thrown) (halt : Halt) → no_end (hit_parts stopped thrown halt) ≡ true
-hit_none false thrown halt =
+hit_none : (stopped : Bool) (thrown : List Thrown) (stops : List Strike) (halt : Halt)
+    → no_end (hit_parts stopped thrown stops halt) ≡ true
+hit_none false thrown stops halt =
     of_told (λ (part : Part). no_end (Part.Notes (thrown_noted thrown) ∷ Part.Notes (step_noted None) ∷ Part.Updates
-    ∷ part ∷ []) ≡ true) (λ stopping. refl) (λ thread object. refl) halt
-hit_none true thrown halt =
+    ∷ part ∷ []) ≡ true) (λ stopping. refl) (λ thread object. refl) stops halt
+hit_none true thrown stops halt =
     of_told (λ (part : Part). no_end (Part.Notes (thrown_noted thrown) ∷ Part.Notes (step_noted None) ∷ Part.Updates
-    ∷ part ∷ Part.Sends (Resume of_composite) ∷ []) ≡ true) (λ stopping. refl) (λ thread object. refl) halt
+    ∷ part ∷ Part.Sends (Resume of_composite) ∷ []) ≡ true) (λ stopping. refl) (λ thread object. refl) stops halt
 
 stepped_none : (code : Option ℕ) → no_end (stepped_by code) ≡ true
 stepped_none None = refl
@@ -289,8 +282,11 @@ chosen_none (TellsNews below) state hand =
     let news = news_of below state hand.item in
     ap no_end (sym (append-nil (told_in state.phase news)))
     ∙ told_alike no_end (λ news parts. refl) state.phase news []
-chosen_none Decides state hand =
-    of_decided (λ (parts : List Part). no_end parts ≡ true) refl refl refl hit_none state hand.item
+chosen_none Judges state hand =
+    of_judged (λ (parts : List Part). no_end parts ≡ true) refl (λ strikes. refl) state hand.item
+chosen_none (Decides logged stops) state hand =
+    of_decided (λ (parts : List Part). no_end parts ≡ true) refl refl refl hit_none (λ text texts stops. refl) state
+    logged stops hand.item
 chosen_none Stepped state hand = stepped_none (refused_with hand.effect)
 chosen_none (Written seen) state hand = written_none seen (refused_with hand.effect)
 chosen_none (Leaves exits) state hand = grind arith

@@ -83,6 +83,8 @@ tells_then (Message.tells (an_event (events.Thread change))) view may =
     as_before view.terminated view.terminated refl
 tells_then (Message.tells (an_event (events.Stopped stop))) view may =
     as_before view.terminated view.terminated refl
+tells_then (Message.tells (an_event (events.Output text))) view may =
+    as_before view.terminated view.terminated refl
 tells_then (Message.tells (an_event events.Terminated)) view may =
     first_time (is_gone view.phase) view.dying view.terminated may
 tells_then (Message.sends command) view may =

@@ -15,6 +15,7 @@ is_terminated events.Initialized = false
 is_terminated (events.Breakpoint breakpoint) = false
 is_terminated (events.Thread change) = false
 is_terminated (events.Stopped stop) = false
+is_terminated (events.Output text) = false
 is_terminated events.Terminated = true
 
 abbrev pub tells_terminated : Told → Bool

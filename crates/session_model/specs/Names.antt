@@ -21,7 +21,7 @@ pub use Rattle.machine_model.specs.declared.items.Phase.{Phase}
 pub use Rattle.machine_model.specs.declared.items.Phase.TheVariants.{Attached, Fresh, Gone}
 pub use Rattle.machine_model.specs.declared.parts.Body.TheVariants.{Nothing}
 pub use Rattle.machine_model.specs.declared.parts.Choice.{Choice}
-pub use Rattle.machine_model.specs.declared.parts.Choice.TheVariants.{Decides, Leaves, Stepped, TellsNews, Written}
+pub use Rattle.machine_model.specs.declared.parts.Choice.TheVariants.{Decides, Judges, Leaves, Stepped, TellsNews, Written}
 pub use Rattle.machine_model.specs.declared.parts.Deed.{Deed}
 pub use Rattle.machine_model.specs.declared.parts.Deed.TheVariants.{Dispose, Exit, Resume, Suspend, Writes}
 pub use Rattle.machine_model.specs.declared.parts.Event.{Event}

@@ -8,7 +8,7 @@ use Rattle.serde_json.specs.View.{items_of}
 use Rattle.dap_messages.specs.Bodies.{child_data, result_data, set_data, shape_data, variable_data}
 use Rattle.dap_messages.specs.Telling.{answer_data, failure_data, told_data, told_text}
 use Rattle.dap_messages.specs.declared.told.Event.{Event}
-use Rattle.dap_messages.specs.declared.told.Event.TheVariants.{Initialized, Breakpoint as Changed, Terminated}
+use Rattle.dap_messages.specs.declared.told.Event.TheVariants.{Initialized, Breakpoint as Changed, Output, Terminated}
 use Rattle.dap_messages.specs.declared.told.Event.TheVariants.{Thread as ThreadChanged, Stopped as HasStopped}
 use Rattle.dap_messages.specs.declared.told.Evaluated.{Evaluated}
 use Rattle.dap_messages.specs.declared.told.Outcome.{Outcome}
@@ -110,6 +110,7 @@ event_read seq Initialized = refl
 event_read seq (Changed breakpoint) = refl
 event_read seq (ThreadChanged change) = refl
 event_read seq (HasStopped stopped) = refl
+event_read seq (Output text) = refl
 event_read seq Terminated = refl
 
 data_read : (seq : ℕ) (message : Told) → told_of (told_data seq message) ≡ tally_of message

@@ -1,7 +1,7 @@
 -- What the messages of a session come to: its requests, responses, events and stops, and the values that it shows.
 use Rattle.std.specs.Prelude.{ℕ, ◌+◌, ◌<◌, ◌≤◌, ◌^◌, Bool, true, false, if◌then◌else◌, List, [], ◌∷◌, bytes_eq, codes, length}
 use Rattle.dap_messages.specs.declared.told.Event.{Event}
-use Rattle.dap_messages.specs.declared.told.Event.TheVariants.{Initialized, Breakpoint as Changed, Terminated}
+use Rattle.dap_messages.specs.declared.told.Event.TheVariants.{Initialized, Breakpoint as Changed, Output, Terminated}
 use Rattle.dap_messages.specs.declared.told.Event.TheVariants.{Thread as ThreadChanged, Stopped as HasStopped}
 use Rattle.dap_messages.specs.declared.told.Outcome.{Outcome}
 use Rattle.dap_messages.specs.declared.told.Outcome.TheVariants.{Success, Failure as Failed}
@@ -59,6 +59,7 @@ is_stopped (HasStopped stopped) = true
 is_stopped Initialized = false
 is_stopped (Changed breakpoint) = false
 is_stopped (ThreadChanged change) = false
+is_stopped (Output text) = false
 is_stopped Terminated = false
 
 -- what one message comes to

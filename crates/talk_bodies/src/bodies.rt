@@ -1,6 +1,8 @@
 //! What the client is told, with numbers in place of the target's ids.
 ghost use Rattle.std.specs.Prelude.{◌≡◌, IfOk, OnOk, map};
+ghost use Rattle.std.specs.List.{list_any};
 ghost use Rattle.machine_model.specs.Breakpoints.{breakpoint_told, with_told};
+ghost use Rattle.machine_model.specs.State.{State as AState};
 ghost use Rattle.machine_model.specs.Telling.{body_told, event_told, hit_told, numbered, numbered_by, outcome_told};
 ghost use Rattle.machine_model.specs.Telling.{reason_told, response_to, thread_told, with_threads};
 ghost use Rattle.machine_model.specs.declared.parts.Body.TheVariants.{StackFrames};
@@ -18,7 +20,7 @@ use session_facts::{
     BoundIds, ThreadNumbers, frames_told, scope_told, value_told, variables_told, written_told,
 };
 use std::alloc::Global;
-use talk_events::{has_line, news_told};
+use talk_events::news_told;
 use talk_rows::breakpoint_told;
 use talk_state::State;
 use wire_core::{List, NoMemory, Text};
@@ -103,6 +105,7 @@ fn body_told(alloc: Global, body: &Body, state: &mut State) -> Result<Shape, NoM
         Body::Capabilities => Ok(Shape::Capabilities),
         Body::Breakpoints { rooted, listed } => {
             let told = breakpoints_told(alloc, *rooted, &state.wishes, listed.as_slice())?;
+            state.told = false;
             add_told(&mut state.bound, told.as_slice())?;
             Ok(Shape::Breakpoints(told))
         }
@@ -164,7 +167,14 @@ fn entry_ids(alloc: Global, entries: &[EntryAt]) -> Result<List<u64>, NoMemory>
     Ok(ids)
 }
 
-// A hit is told with the breakpoints that stand there (DAP specification, Events, Stopped, hitBreakpointIds).
+// Whether one of these breakpoints is of a source (DAP specification, SetBreakpoints request).
+fn has_line(entries: &[EntryAt]) -> bool
+    ensures { result ≡ list_any (λ entry. entry.line) entries.now }
+{
+    entries.iter().any(|entry| entry.line)
+}
+
+// A hit is told with the breakpoints that stop there (DAP specification, Events, Stopped, hitBreakpointIds).
 fn hit_told(alloc: Global, entries: &[EntryAt]) -> Result<StopReason, NoMemory>
     ensures { IfOk result (λ reason. reason ≡ hit_told entries.now) }
 {
@@ -175,14 +185,11 @@ fn hit_told(alloc: Global, entries: &[EntryAt]) -> Result<StopReason, NoMemory>
     Ok(StopReason::FunctionBreakpoint(ids))
 }
 
-fn reason_told(alloc: Global, cause: StopCause, state: &State) -> Result<StopReason, NoMemory>
-    ensures { IfOk result (λ reason. reason ≡ reason_told cause state.now) }
+fn reason_told(alloc: Global, cause: StopCause) -> Result<StopReason, NoMemory>
+    ensures { (state : AState) → IfOk result (λ reason. reason ≡ reason_told cause state) }
 {
     match cause {
-        StopCause::Hit(at) => {
-            let entries = state.wishes.entries_at(alloc, &at)?;
-            hit_told(alloc, entries.as_slice())
-        }
+        StopCause::Hit(entries) => hit_told(alloc, entries.as_slice()),
         StopCause::Exception(text) => Ok(StopReason::Exception(text)),
         StopCause::Step => Ok(StopReason::Step),
         StopCause::Pause => Ok(StopReason::Pause),
@@ -194,7 +201,7 @@ fn stop_told(alloc: Global, stopping: Stopping, state: &State) -> Result<EventTo
     ensures { IfOk result (λ told. told ≡ event_told (a_stop stopping) state.now) }
 {
     Ok(EventTold::Stopped(Stopped {
-        reason: reason_told(alloc, stopping.cause, state)?,
+        reason: reason_told(alloc, stopping.cause)?,
         thread: state.threads.number(stopping.thread),
     }))
 }
@@ -207,6 +214,7 @@ pub fn event_told(alloc: Global, event: Event, state: &State) -> Result<EventTol
         Event::Initialized => Ok(EventTold::Initialized),
         Event::News(news) => Ok(news_told(news, state)),
         Event::Stopped(stopping) => stop_told(alloc, stopping, state),
+        Event::Logged(text) => Ok(EventTold::Output(text)),
         Event::Terminated => Ok(EventTold::Terminated),
     }
 }

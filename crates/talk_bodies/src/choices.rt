@@ -6,7 +6,7 @@ ghost use Rattle.machine_model.specs.State.{Hand as AHand};
 use machine_model::{Choice, Deed, Doing, Item, Part, Phase};
 use std::alloc::Global;
 use std::collections::VecDeque;
-use talk_events::{decided, told_news};
+use talk_events::{decided, judged, told_news};
 use talk_rows::{refused_with, stepped_by, written_by};
 use talk_state::State;
 use wire_core::NoMemory;
@@ -42,7 +42,8 @@ pub fn chosen(
 {
     match choice {
         Choice::TellsNews(below) => told_news(alloc, below, state, item),
-        Choice::Decides => decided(alloc, state, item),
+        Choice::Judges => judged(alloc, state, item),
+        Choice::Decides { logged, stops } => decided(alloc, state, logged, stops, item),
         Choice::Stepped => stepped_by(alloc, refused_with(effect)),
         Choice::Written(seen) => written_by(alloc, seen, refused_with(effect)),
         Choice::Leaves(exits) => leaves(alloc, state.phase, exits),

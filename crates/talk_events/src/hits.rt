@@ -1,8 +1,8 @@
-//! Which threads halted by what a composite tells of, and what they threw.
+//! Which threads threw something or ended a step by what a composite tells of, and what they threw.
 ghost use Rattle.std.specs.Prelude.{◌≡◌, ◌++◌, ◌∷◌, [], cond, IfOk, OnOk, find};
-ghost use Rattle.std.specs.List.{flat_map, list_any};
-ghost use Rattle.machine_model.specs.Stops.{first_of, first_with, hit_by, hits_in, is_at_line, is_breakpoint, is_live};
-ghost use Rattle.machine_model.specs.Stops.{is_thrown, stop_among, thrown_by, thrown_in};
+ghost use Rattle.std.specs.List.{flat_map};
+ghost use Rattle.machine_model.specs.Stops.{first_of, first_with, hit_by, hits_in, is_live, is_thrown};
+ghost use Rattle.machine_model.specs.Stops.{thrown_by, thrown_in};
 
 use jdwp_events::{Event as TargetEvent, EventKind};
 use jdwp_values::ObjectId;
@@ -10,10 +10,10 @@ use look_ups::object_named;
 use machine_model::{Halt, HaltCause, Thrown};
 use std::alloc::Global;
 use wire_core::{List, NoMemory};
-use wish_sets::{EntryAt, Wishes};
+use wish_sets::Wishes;
 
-// An event request of this kind is installed under this id (JDWP, Event command set, Composite, requestID).
-fn is_live(wishes: &Wishes, kind: EventKind, request: u32) -> bool
+/// An event request of this kind is installed under this id (JDWP, Event command set, Composite, requestID).
+pub(crate) fn is_live(wishes: &Wishes, kind: EventKind, request: u32) -> bool
     ensures { result ≡ is_live wishes.now kind request }
 {
     match wishes.owner_of(kind, request) {
@@ -38,23 +38,12 @@ fn add_live(
     Ok(())
 }
 
-// A thread halted under an event request that is installed: it came to a breakpoint, it threw something, or its step has
-// ended (JDWP, Event command set, Composite, Breakpoint, Exception and SingleStep).
+// A thread halted otherwise than at a breakpoint, under an event request that is installed: it threw something, or its
+// step has ended (JDWP, Event command set, Composite, Exception and SingleStep).
 fn add_hit(hits: &mut List<Halt>, wishes: &Wishes, event: &TargetEvent) -> Result<(), NoMemory>
     ensures { OnOk result (hits.new ≡ hits.old ++ hit_by wishes.now event.now) }
 {
     match event {
-        TargetEvent::Breakpoint {
-            request,
-            thread,
-            at,
-        } => {
-            let halt = Halt {
-                cause: HaltCause::Breakpoint(*at),
-                thread: *thread,
-            };
-            add_live(hits, wishes, EventKind::Breakpoint, *request, halt)
-        }
         TargetEvent::Exception {
             request,
             thread,
@@ -82,7 +71,7 @@ fn add_hit(hits: &mut List<Halt>, wishes: &Wishes, event: &TargetEvent) -> Resul
     }
 }
 
-/// The threads that halted by these events, in order.
+/// The threads that threw something or ended a step by these events, in order.
 pub(crate) fn hits_in(
     alloc: Global,
     wishes: &Wishes,
@@ -97,37 +86,6 @@ pub(crate) fn hits_in(
     Ok(hits)
 }
 
-/// Whether one of these breakpoints is of a source (DAP specification, SetBreakpoints request).
-pub fn has_line(entries: &[EntryAt]) -> bool
-    ensures { result ≡ list_any (λ entry. entry.line) entries.now }
-{
-    entries.iter().any(|entry| entry.line)
-}
-
-// A breakpoint of a source stands there.
-fn is_at_line(alloc: Global, wishes: &Wishes, cause: HaltCause) -> Result<bool, NoMemory>
-    ensures { IfOk result (λ is. is ≡ is_at_line wishes.now cause) }
-{
-    match cause {
-        HaltCause::Breakpoint(at) => {
-            let entries = wishes.entries_at(alloc, &at)?;
-            Ok(has_line(entries.as_slice()))
-        }
-        HaltCause::Exception(_) => Ok(false),
-        HaltCause::Step => Ok(false),
-    }
-}
-
-fn is_breakpoint(cause: HaltCause) -> bool
-    ensures { result ≡ is_breakpoint cause }
-{
-    match cause {
-        HaltCause::Breakpoint(_) => true,
-        HaltCause::Exception(_) => false,
-        HaltCause::Step => false,
-    }
-}
-
 fn is_thrown(cause: HaltCause) -> bool
     ensures { result ≡ is_thrown cause }
 {
@@ -136,30 +94,6 @@ fn is_thrown(cause: HaltCause) -> bool
         HaltCause::Exception(_) => true,
         HaltCause::Step => false,
     }
-}
-
-// The first hit of a breakpoint of a source.
-fn line_hit(alloc: Global, wishes: &Wishes, hits: &[Halt]) -> Result<Option<Halt>, NoMemory>
-    ensures { IfOk result (λ hit. hit ≡ find (λ hit. is_at_line wishes.now hit.cause) hits.now) }
-{
-    for hit in hits {
-        if is_at_line(alloc, wishes, hit.cause)? {
-            return Ok(Some(*hit));
-        }
-    }
-    Ok(None)
-}
-
-// The first hit of a breakpoint.
-fn breakpoint_hit(hits: &[Halt]) -> Option<Halt>
-    ensures { result ≡ find (λ hit. is_breakpoint hit.cause) hits.now }
-{
-    for hit in hits {
-        if is_breakpoint(hit.cause) {
-            return Some(*hit);
-        }
-    }
-    None
 }
 
 // The first hit of an exception.
@@ -181,37 +115,13 @@ fn first_of(hits: &[Halt]) -> Option<Halt>
     hits.first().copied()
 }
 
-// The first hit of an exception, else the first.
-fn thrown_or_first(hits: &[Halt]) -> Option<Halt>
+/// The first hit of an exception, else the first.
+pub(crate) fn thrown_or_first(hits: &[Halt]) -> Option<Halt>
     ensures { result ≡ first_with is_thrown hits.now (first_of hits.now) }
 {
     match thrown_hit(hits) {
         Some(hit) => Some(hit),
         None => first_of(hits),
-    }
-}
-
-// The first hit of a breakpoint, else of an exception, else the first.
-fn breakpoint_or_other(hits: &[Halt]) -> Option<Halt>
-    ensures { result ≡ first_with is_breakpoint hits.now (first_with is_thrown hits.now (first_of hits.now)) }
-{
-    match breakpoint_hit(hits) {
-        Some(hit) => Some(hit),
-        None => thrown_or_first(hits),
-    }
-}
-
-/// The hit that is told: the first of a breakpoint of a source, else of a function, else of an exception, else of a step.
-pub(crate) fn stop_among(
-    alloc: Global,
-    wishes: &Wishes,
-    hits: &[Halt],
-) -> Result<Option<Halt>, NoMemory>
-    ensures { IfOk result (λ stop. stop ≡ stop_among wishes.now hits.now) }
-{
-    match line_hit(alloc, wishes, hits)? {
-        Some(hit) => Ok(Some(hit)),
-        None => Ok(breakpoint_or_other(hits)),
     }
 }
 

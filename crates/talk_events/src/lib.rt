@@ -4,7 +4,7 @@
 mod hits;
 mod news;
 mod stops;
+mod strikes;
 
-pub use hits::has_line;
 pub use news::{news_told, told_news};
-pub use stops::decided;
+pub use stops::{decided, judged};

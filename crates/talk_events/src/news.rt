@@ -1,7 +1,7 @@
 //! What the client is told of breakpoints that are verified by and by, and of threads.
 ghost use Rattle.std.specs.Prelude.{◌≡◌, ◌++◌, IfOk, OnOk, filter, map, option_map};
 ghost use Rattle.std.specs.List.{flat_map};
-ghost use Rattle.machine_model.specs.Breakpoints.{client_line, is_news, verified_told};
+ghost use Rattle.machine_model.specs.Breakpoints.{client_line, is_news, newly_verified, verified_told};
 ghost use Rattle.machine_model.specs.Composites.{change_told, changes_in};
 ghost use Rattle.machine_model.specs.declared.parts.News.TheVariants.{Verified as entry_verified};
 ghost use Rattle.machine_model.specs.Rows.{each_told, news_of, told_in};
@@ -80,11 +80,22 @@ fn add_changes_in(news: &mut List<News>, item: &Item) -> Result<(), NoMemory>
     }
 }
 
+// Those that are verified, which is news: none, where it was found out that the client knows of each.
+fn newly_verified(alloc: Global, below: u64, state: &State) -> Result<List<News>, NoMemory>
+    ensures { IfOk result (λ news. news
+        ≡ map entry_verified (newly_verified below state.now.bound state.now.wishes)) }
+{
+    if state.told {
+        return Ok(List::new(alloc));
+    }
+    let verified = state.wishes.verified(alloc)?;
+    verified_among(alloc, below, &state.bound, verified.as_slice())
+}
+
 fn news_of(alloc: Global, below: u64, state: &State, item: &Item) -> Result<List<News>, NoMemory>
     ensures { IfOk result (λ news. news ≡ news_of below state.now item.now) }
 {
-    let verified = state.wishes.verified(alloc)?;
-    let mut news = verified_among(alloc, below, &state.bound, verified.as_slice())?;
+    let mut news = newly_verified(alloc, below, state)?;
     add_changes_in(&mut news, item)?;
     Ok(news)
 }

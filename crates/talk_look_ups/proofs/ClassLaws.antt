@@ -7,25 +7,29 @@ use Rattle.class_tables.specs.Signatures.{package_in}
 use Rattle.class_tables.specs.declared.loaded.Loaded.{Loaded}
 use Rattle.jdwp_commands.specs.declared.answer.Answer.{Answer}
 use Rattle.jdwp_commands.specs.declared.answer.Answer.TheVariants as answers
+use Rattle.jdwp_commands.specs.declared.asked.Replied.{Replied}
+use Rattle.machine_model.specs.Names.{an_answer, an_error}
 use Rattle.jdwp_commands.specs.declared.question.Question.TheVariants as questions
 use Rattle.jdwp_values.specs.declared.class.LineTable.{LineTable}
 use Rattle.jdwp_values.specs.declared.class.Method.{Method}
 use Rattle.jdwp_values.specs.declared.id.ClassId.{ClassId}
-use Rattle.machine_model.specs.Classes.{bound_plan, class_plan, counts, is_keyed, keyed_plan, known_plan, lines_plan}
-use Rattle.machine_model.specs.Classes.{methods_plan, package_plan, prepared_plan, source_plan, watched_plan}
+use Rattle.machine_model.specs.Classes.{bound_plan, class_plan, counts, early_plan, is_keyed, keyed_plan, known_plan}
+use Rattle.machine_model.specs.Classes.{lines_plan, methods_plan, package_plan, prepared_plan, source_plan, watched_plan}
 use Rattle.machine_model.specs.Facts.{lines_in, methods_in, source_in}
 use Rattle.machine_model.specs.Lookups.{plan}
-use Rattle.machine_model.specs.Plans.{Found, Need, Sight, after, answer_in, chained, each, fact_heard, found_from, has}
-use Rattle.machine_model.specs.Plans.{made_with, must_hear, need}
+use Rattle.machine_model.specs.Plans.{Found, Need, Sight, after, answer_in, asking, beside, chained, each, fact_heard}
+use Rattle.machine_model.specs.Plans.{found_from, has, lacks, made_with, must_by, must_hear, need}
 use Rattle.machine_model.specs.State.{State}
 use Rattle.machine_model.specs.declared.acts.Sent.{Sent}
+use Rattle.machine_model.specs.declared.acts.Want.{Want}
 use Rattle.machine_model.specs.declared.parts.Finding.TheVariants.{Classes as classes_found}
 use Rattle.machine_model.specs.declared.parts.Lookup.TheVariants.{Classes as class_facts}
 use Rattle.talk_look_ups.proofs.PlanLaws.{each_lacks, joined_lacks, made_lacks}
-use Rattle.session_facts.specs.ClassPlanning.{ClassNeed, all_found, all_lacking, bound_need, class_need, keyed_need, known_or}
-use Rattle.session_facts.specs.ClassPlanning.{lines_lacking, lines_question, methods_need, signed_need}
+use Rattle.session_facts.specs.ClassPlanning.{ClassNeed, all_found, all_lacking, bound_need, class_need, early_lacking}
+use Rattle.session_facts.specs.ClassPlanning.{keyed_need, known_or, lines_lacking, lines_question, methods_heard}
+use Rattle.session_facts.specs.ClassPlanning.{methods_need, signed_need}
 use Rattle.session_facts.specs.ClassPlanning.{source_heard, source_need, unless_heard, watched_by, watched_in}
-use Rattle.talk_look_ups.specs.Planning.{lacks_or, sight_in}
+use Rattle.talk_look_ups.specs.Planning.{lacks_or, listing_by, sight_in}
 use Rattle.wish_sets.specs.Places.{key_by}
 use Rattle.wish_sets.specs.Wanted.{Wanted}
 use Rattle.wish_sets.specs.Wished.{is_named, is_watched}
@@ -118,28 +122,83 @@ keyed_plan_need : (sight : Sight) (keyed : Bool) (wanted : Wanted) (class : Clas
 keyed_plan_need sight keyed wanted class signature =
     bound_plan_need sight (keyed || is_named wanted signature None) keyed wanted class signature
 
-source_plan_need : (sight : Sight) (wanted : Wanted) (class : ClassId) (signature : List ℕ)
-    → need sight (source_plan wanted class signature)
-    ≡ need_by (source_need sight wanted class signature (source_heard sight class))
-unfolding need chained
-source_plan_need sight wanted class signature =
-    by_known (sight.classes.source class) (found_from 0 sight.asked (questions.SourceFile class))
-  where
-    by_source : (source : Option (List ℕ))
-        → need sight (keyed_plan (is_keyed wanted (key_by signature (source_in (option_map answers.SourceFile source))))
-        wanted class signature)
-        ≡ need_by (source_need sight wanted class signature (Some source))
-    by_source None = keyed_plan_need sight (is_keyed wanted (key_by signature None)) wanted class signature
-    by_source (Some file) =
-        keyed_plan_need sight (is_keyed wanted (key_by signature (Some file))) wanted class signature
+-- the methods of a class that a function names; anything, while they are lacking
+abbrev early_value : Bool → Option (List Method) → List Method
+early_value false methods = []
+early_value true None = []
+early_value true (Some methods) = methods
 
-    by_known : (known : Option (Option (List ℕ))) (found : Option Found)
-        → after (fact_heard (questions.SourceFile class) (option_map (option_map answers.SourceFile) known) found)
-        (λ heard. need sight (keyed_plan (is_keyed wanted (key_by signature (source_in heard))) wanted class signature))
-        ≡ need_by (source_need sight wanted class signature (known_or known source_in found))
-    by_known (Some source) found = by_source source
+early_plan_need : (sight : Sight) (named : Bool) (class : ClassId)
+    → need sight (early_plan named class)
+    ≡ lacks_or (early_lacking named class (methods_heard sight class)) (early_value named (methods_heard sight class))
+unfolding need
+early_plan_need sight false class = refl
+early_plan_need sight true class =
+    by_known (sight.classes.methods class) (found_from 0 sight.asked (questions.Methods class))
+  where
+    by_known : (known : Option (List Method)) (found : Option Found)
+        → after (fact_heard (questions.Methods class) (option_map (λ list. Some (answers.Methods list)) known) found)
+        (λ heard. has (methods_in heard))
+        ≡ lacks_or (early_lacking true class (known_or known methods_in found))
+        (early_value true (known_or known methods_in found))
+    by_known (Some methods) found = refl
     by_known None None = refl
-    by_known None (Some found) = by_source (source_in (answer_in found.replied))
+    by_known None (Some found) = refl
+
+-- what a class needs once its source and, where a function names it, its methods were gone for side by side
+module _ (sight : Sight) (wanted : Wanted) (class : ClassId) (signature : List ℕ) where
+  abbrev goes_on : Option (List ℕ) × List Method → Need (List ClassId)
+  goes_on two = need sight (keyed_plan (is_keyed wanted (key_by signature two.0)) wanted class signature)
+
+  abbrev early : Need (List Method)
+  early = lacks_or (early_lacking (is_named wanted signature None) class (methods_heard sight class))
+      (early_value (is_named wanted signature None) (methods_heard sight class))
+
+  methods_lack : (keyed : Bool) → is_named wanted signature None ≡ true → methods_heard sight class ≡ None
+      → lacks (Want.Fact (questions.Methods class)) [] ≡ need_by (keyed_need sight keyed wanted class signature)
+  methods_lack true named none = rw none refl
+  methods_lack false named none = rw (named, none) refl
+
+  by_source : (source : Option (List ℕ))
+      → after (beside (has source) early) goes_on ≡ need_by (source_need sight wanted class signature (Some source))
+  by_source source = by_named (is_named wanted signature None) refl (methods_heard sight class) refl
+    where
+      by_named : (named : Bool) → is_named wanted signature None ≡ named → (methods : Option (List Method))
+          → methods_heard sight class ≡ methods
+          → after (beside (has source) (lacks_or (early_lacking named class methods) (early_value named methods))) goes_on
+          ≡ need_by (source_need sight wanted class signature (Some source))
+      by_named false is methods known =
+          keyed_plan_need sight (is_keyed wanted (key_by signature source)) wanted class signature
+      by_named true is (Some methods) known =
+          keyed_plan_need sight (is_keyed wanted (key_by signature source)) wanted class signature
+      by_named true is None known = methods_lack (is_keyed wanted (key_by signature source)) is known
+
+  by_heard : (source : Option (List ℕ))
+      → after (beside (has (source_in (option_map answers.SourceFile source))) early) goes_on
+      ≡ need_by (source_need sight wanted class signature (Some source))
+  by_heard None = by_source None
+  by_heard (Some file) = by_source (Some file)
+
+  by_lacking : (want : Want) (wants : List Want) (methods : List Method)
+      → after (beside (lacks want []) (lacks_or wants methods)) goes_on ≡ lacks want wants
+  by_lacking want [] methods = refl
+  by_lacking want (other ∷ more) methods = refl
+
+  source_plan_need : need sight (source_plan wanted class signature)
+      ≡ need_by (source_need sight wanted class signature (source_heard sight class))
+  unfolding need
+  source_plan_need =
+      ap (λ n. after (beside (need sight (asking source_in (Want.Fact (questions.SourceFile class)))) n) goes_on)
+      (early_plan_need sight (is_named wanted signature None) class)
+      ∙ by_known (sight.classes.source class) (found_from 0 sight.asked (questions.SourceFile class))
+    where
+      by_known : (known : Option (Option (List ℕ))) (found : Option Found)
+          → after (beside (after (fact_heard (questions.SourceFile class)
+          (option_map (option_map answers.SourceFile) known) found) (λ heard. has (source_in heard))) early) goes_on
+          ≡ need_by (source_need sight wanted class signature (known_or known source_in found))
+      by_known (Some source) found = by_heard source
+      by_known None None = by_lacking (Want.Fact (questions.SourceFile class)) _ _
+      by_known None (Some found) = by_heard (source_in (answer_in found.replied))
 
 class_plan_need : (sight : Sight) (wanted : Wanted) (class : ClassId)
     → need sight (class_plan wanted class (sight.classes.loaded class)) ≡ need_by (class_need sight wanted class)
@@ -173,14 +232,46 @@ class_plan_need sight wanted class = by_loaded (sight.classes.loaded class)
 
 -- The whole -----------------------------------------------------------------------------------------------------------
 
--- where a watch was set since they were listed, all classes are listed
+-- each class is asked for what is missing
+known_plan_need : (sight : Sight) (wanted : Wanted)
+    → need sight (known_plan wanted sight.classes)
+    ≡ lacks_or (all_lacking sight wanted sight.classes.order) (all_found sight wanted sight.classes.order)
+known_plan_need sight wanted = joined_lacks sight (λ class. class_plan wanted class (sight.classes.loaded class))
+    (λ classes. classes) (λ class. (class_need sight wanted class).lacking)
+    (λ class. (class_need sight wanted class).found) (class_plan_need sight wanted) sight.classes.order
+
+-- where a watch was set since they were listed, all classes are listed beside it
 pub listing_need : (state : State) (asked : List Sent) → state.unlisted ≡ true
     → need (sight_in state asked) (plan class_facts state)
-    ≡ after (must_hear questions.AllClasses (found_from 0 asked questions.AllClasses)) (λ heard. has (classes_found []))
+    ≡ listing_by (found_from 0 asked questions.AllClasses)
+    (all_lacking (sight_in state asked) state.wishes.wanted (found_in state.classes).order)
 unfolding need made_with
-listing_need state asked is = rw is refl
+listing_need state asked is =
+    let sight = sight_in state asked in
+    let wanted = state.wishes.wanted in
+    rw is (ap (λ n. after (beside (after (must_hear questions.AllClasses (found_from 0 asked questions.AllClasses))
+    (λ heard. has [])) n) (λ (two : List ClassId × List ClassId). has (classes_found two.0)))
+    (known_plan_need sight wanted)
+    ∙ by_found (found_from 0 asked questions.AllClasses) (all_lacking sight wanted (found_in state.classes).order)
+    (all_found sight wanted (found_in state.classes).order))
+  where
+    by_reply : (place : ℕ) (replied : Replied) (wants : List Want) (classes : List ClassId)
+        → after (beside (after (must_by place replied) (λ heard. has [])) (lacks_or wants classes))
+        (λ (two : List ClassId × List ClassId). has (classes_found two.0))
+        ≡ after (must_by place replied) (λ heard. lacks_or wants (classes_found []))
+    by_reply place (an_answer answer) [] classes = refl
+    by_reply place (an_answer answer) (want ∷ wants) classes = refl
+    by_reply place (an_error code) [] classes = refl
+    by_reply place (an_error code) (want ∷ wants) classes = refl
 
--- else each class is asked for what is missing
+    by_found : (found : Option Found) (wants : List Want) (classes : List ClassId)
+        → after (beside (after (must_hear questions.AllClasses found) (λ heard. has [])) (lacks_or wants classes))
+        (λ (two : List ClassId × List ClassId). has (classes_found two.0)) ≡ listing_by found wants
+    by_found None [] classes = refl
+    by_found None (want ∷ wants) classes = refl
+    by_found (Some found) wants classes = by_reply found.place found.replied wants classes
+
+-- else each class alone
 pub known_need : (state : State) (asked : List Sent) → state.unlisted ≡ false
     → need (sight_in state asked) (plan class_facts state)
     ≡ lacks_or (all_lacking (sight_in state asked) state.wishes.wanted (found_in state.classes).order)
@@ -189,6 +280,4 @@ known_need state asked is =
     let sight = sight_in state asked in
     let wanted = state.wishes.wanted in
     rw is (made_lacks sight classes_found (known_plan wanted (found_in state.classes)) _ _
-    (joined_lacks sight (λ class. class_plan wanted class (sight.classes.loaded class)) (λ classes. classes)
-    (λ class. (class_need sight wanted class).lacking) (λ class. (class_need sight wanted class).found)
-    (class_plan_need sight wanted) (found_in state.classes).order))
+    (known_plan_need sight wanted))

@@ -5,6 +5,7 @@ use Rattle.jdwp_commands.specs.declared.question.Question.{Question}
 use Rattle.jdwp_commands.specs.declared.question.Question.TheVariants as questions
 use Rattle.machine_model.specs.Lookups.{named_by}
 use Rattle.machine_model.specs.declared.parts.Finding.{Finding}
+use Rattle.machine_model.specs.declared.parts.Finding.TheVariants.{Classes as classes_found}
 use Rattle.machine_model.specs.declared.parts.NamedThread.{NamedThread}
 use Rattle.jdwp_commands.specs.declared.asked.Replied.{Replied}
 use Rattle.machine_model.specs.declared.acts.Sent.{Sent}
@@ -12,7 +13,7 @@ use Rattle.jdwp_values.specs.declared.id.ThreadId.{ThreadId}
 use Rattle.machine_model.specs.declared.acts.Want.{Want}
 use Rattle.machine_model.specs.Plans as needs
 use Rattle.look_ups.specs.Asking.{reply_in}
-use Rattle.machine_model.specs.Plans.{Sight, answer_in, found_from}
+use Rattle.machine_model.specs.Plans.{Found, Sight, answer_in, found_from, must_by}
 use Rattle.machine_model.specs.State.{State}
 use Rattle.talk_look_ups.specs.declared.need.Need.{Need}
 use Rattle.talk_look_ups.specs.declared.need.Need.TheVariants.{Has, Fails, Lacks}
@@ -55,6 +56,12 @@ name_known asked thread = named_thread thread (name_reply asked thread)
 abbrev pub lacks_or : {A : Type 0} → List Want → A → needs.Need A
 lacks_or [] found = needs.has found
 lacks_or (first ∷ others) found = needs.lacks first others
+
+-- all classes are listed beside what is lacking of those that are known, and none is found before
+abbrev pub listing_by : Option Found → List Want → needs.Need Finding
+listing_by None wants = needs.lacks (Want.Must questions.AllClasses) wants
+listing_by (Some found) wants =
+    needs.after (must_by found.place found.replied) (λ heard. lacks_or wants (classes_found []))
 
 -- what is lacking, or else what is found
 abbrev pub need_or : Option Need → Finding → needs.Need Finding

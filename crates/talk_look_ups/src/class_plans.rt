@@ -1,18 +1,19 @@
 //! What has to be known of classes before breakpoints are bound in them: what each lacks, and which are found.
-ghost use Rattle.std.specs.Prelude.{◌≡◌, ◌++◌, ◌∷◌, [], cond, filter, option_copied, option_map, IfOk, OnOk};
+ghost use Rattle.std.specs.Prelude.{◌≡◌, ◌++◌, ◌∷◌, [], None, cond, filter, option_copied, option_map, IfOk, OnOk};
 ghost use Rattle.std.specs.List.{flat_map};
 ghost use Rattle.class_tables.specs.Lookups.{found_in};
 ghost use Rattle.jdwp_commands.specs.declared.question.Question.TheVariants as questions;
 ghost use Rattle.machine_model.specs.Classes.{counts};
 ghost use Rattle.machine_model.specs.Lookups.{plan};
-ghost use Rattle.machine_model.specs.Plans.{after, found_from, has, must_hear, need};
+ghost use Rattle.machine_model.specs.Plans.{found_from, need};
 ghost use Rattle.machine_model.specs.declared.acts.Want.TheVariants.{Fact};
 ghost use Rattle.machine_model.specs.declared.parts.Finding.TheVariants.{Classes as classes_found};
 ghost use Rattle.machine_model.specs.declared.parts.Lookup.TheVariants.{Classes as class_facts};
-ghost use Rattle.session_facts.specs.ClassPlanning.{all_found, all_lacking, class_need, lines_lacking, methods_heard};
-ghost use Rattle.session_facts.specs.ClassPlanning.{source_heard};
+ghost use Rattle.session_facts.specs.ClassPlanning.{all_found, all_lacking, class_need, early_lacking, lines_lacking};
+ghost use Rattle.session_facts.specs.ClassPlanning.{methods_heard, source_heard};
 ghost use Rattle.session_facts.specs.OpenClasses.{AreOpen};
-ghost use Rattle.talk_look_ups.specs.Planning.{need_of, sight_in};
+ghost use Rattle.talk_look_ups.specs.Planning.{lacks_or, listing_by, need_of, sight_in};
+ghost use Rattle.wish_sets.specs.Wished.{is_named};
 
 use crate::need::{Need, lacks};
 use jdwp_commands::{Question, Replied};
@@ -141,6 +142,29 @@ fn add_all_lines(
     Ok(())
 }
 
+// The methods of a class that a function names, where they were neither learnt nor replied (JDWP, ReferenceType command
+// set, Methods).
+fn add_early(
+    alloc: Global,
+    state: &State,
+    asked: &Asked,
+    class: ClassId,
+    signature: &[u8],
+    wants: &mut VecDeque<Want>,
+) -> Result<(), NoMemory>
+    ensures { OnOk result (wants.new.items
+        ≡ wants.old.items ++ early_lacking (is_named state.now.wishes.wanted signature.now None) class
+        (methods_heard (sight_in state.now asked.now) class)) }
+{
+    if !is_bound(false, &state.wishes, signature) {
+        return Ok(());
+    }
+    match methods_heard(alloc, state, asked, class)? {
+        None => lack(wants, Question::Methods(class)),
+        Some(_) => Ok(()),
+    }
+}
+
 // What a class lacks, behind what those before it lack.
 fn add_lacking(
     alloc: Global,
@@ -156,7 +180,8 @@ fn add_lacking(
         return Ok(());
     };
     let Some(source) = source_heard(alloc, state, asked, class)? else {
-        return lack(wants, Question::SourceFile(class));
+        lack(wants, Question::SourceFile(class))?;
+        return add_early(alloc, state, asked, class, signature, wants);
     };
     let keyed = is_keyed(&state.wishes, signature, source);
     if !is_bound(keyed, &state.wishes, signature) {
@@ -287,20 +312,29 @@ fn all_found(alloc: Global, state: &State, asked: &Asked) -> Result<List<ClassId
     }
 }
 
-// All classes are listed, and nothing is read off (JDWP, VirtualMachine command set, AllClasses).
-fn listing_need(alloc: Global, asked: &Asked) -> Result<Need, NoMemory>
+// What lacks these, where there are any, and finds no class.
+fn lacks_alone(alloc: Global, wants: VecDeque<Want>) -> Need
+    ensures { need_of result ≡ lacks_or wants.items (classes_found []) }
+{
+    match lacks(wants) {
+        Some(found) => found,
+        None => Need::Has(Finding::Classes(List::new(alloc))),
+    }
+}
+
+// All classes are listed beside these, and nothing is read off (JDWP, VirtualMachine command set, AllClasses).
+fn listing_need(alloc: Global, asked: &Asked, others: VecDeque<Want>) -> Result<Need, NoMemory>
     ensures { IfOk result (λ found. need_of found
-        ≡ after (must_hear questions.AllClasses (found_from 0 asked.now questions.AllClasses))
-        (λ heard. has (classes_found []))) }
+        ≡ listing_by (found_from 0 asked.now questions.AllClasses) others.items) }
 {
     let key = QuestionKey::new(alloc, Question::AllClasses)?;
     match asked.find(&key) {
         None => Ok(Need::Lacks {
             first: Want::Must(key.into_question()),
-            others: VecDeque::new(alloc),
+            others,
         }),
         Some((place, Replied::Error(code))) => Ok(Need::Fails { place, code: *code }),
-        Some((_, Replied::Answer(_))) => Ok(Need::Has(Finding::Classes(List::new(alloc)))),
+        Some((_, Replied::Answer(_))) => Ok(lacks_alone(alloc, others)),
     }
 }
 
@@ -311,10 +345,11 @@ fn listing_need(alloc: Global, asked: &Asked) -> Result<Need, NoMemory>
 pub fn classes_need(alloc: Global, state: &State, asked: &Asked) -> Result<Need, NoMemory>
     ensures { IfOk result (λ found. need_of found ≡ need (sight_in state.now asked.now) (plan class_facts state.now)) }
 {
+    let wants = all_lacking(alloc, state, asked)?;
     if state.unlisted {
-        return listing_need(alloc, asked);
+        return listing_need(alloc, asked, wants);
     }
-    match lacks(all_lacking(alloc, state, asked)?) {
+    match lacks(wants) {
         Some(found) => Ok(found),
         None => Ok(Need::Has(Finding::Classes(all_found(alloc, state, asked)?))),
     }

@@ -14,7 +14,7 @@ use crate::next::Next;
 use crate::plans::found_for;
 use dap_messages::Told;
 use jdwp_commands::Question;
-use machine_model::{Deed, Doing, Effect, Guard, Item, Lookup, Outcome, Part, Want};
+use machine_model::{Choice, Deed, Doing, Effect, Guard, Item, Lookup, Outcome, Part, Want};
 use session_facts::{effect_copy, effect_due};
 use std::alloc::Global;
 use std::collections::VecDeque;
@@ -186,6 +186,7 @@ impl Talk {
                 Ok(Next::Go)
             }
             Part::Unfolds(choice) => {
+                look_for_news(alloc, &choice, state)?;
                 let parts = chosen(alloc, choice, state, &self.item, &self.effect)?;
                 put_first(parts, &mut self.parts)?;
                 Ok(Next::Go)
@@ -323,7 +324,7 @@ fn passed(_outcome: Outcome) -> Next
     Next::Go
 }
 
-// Before classes are gone through, it is found out which may lack something, once all are listed.
+// Before classes are gone through, it is found out which may lack something.
 fn look_ahead(alloc: Global, lookup: &Lookup, state: &mut State) -> Result<(), NoMemory>
     ensures { OnOk result (state.new ≡ state.old) }
 {
@@ -335,12 +336,22 @@ fn look_ahead(alloc: Global, lookup: &Lookup, state: &mut State) -> Result<(), N
         Lookup::Write { .. } => Ok(()),
         Lookup::ExceptionText { .. } => Ok(()),
         Lookup::Exception(_) => Ok(()),
-        Lookup::Classes => {
-            if state.unlisted {
-                return Ok(());
-            }
-            state.open_classes(alloc)
-        }
+        Lookup::Hits(_) => Ok(()),
+        Lookup::Classes => state.open_classes(alloc),
+    }
+}
+
+// Before the client is told of breakpoints, it is found out whether there is news of them.
+fn look_for_news(alloc: Global, choice: &Choice, state: &mut State) -> Result<(), NoMemory>
+    ensures { OnOk result (state.new ≡ state.old) }
+{
+    match choice {
+        Choice::TellsNews(_) => state.find_news(alloc),
+        Choice::Judges => Ok(()),
+        Choice::Decides { .. } => Ok(()),
+        Choice::Stepped => Ok(()),
+        Choice::Written(_) => Ok(()),
+        Choice::Leaves(_) => Ok(()),
     }
 }
 

@@ -1,17 +1,21 @@
 //! What becomes of a look-up that is done.
-ghost use Rattle.std.specs.Prelude.{◌≡◌, IfOk};
-ghost use Rattle.machine_model.specs.Lookups.{classes_of, finished, refusal, text_of, valued_by, write_parts};
+ghost use Rattle.std.specs.Prelude.{◌≡◌, ◌∷◌, [], IfOk};
+ghost use Rattle.machine_model.specs.Lookups.{classes_of, finished, logged_of, refusal, stops_of};
+ghost use Rattle.machine_model.specs.Lookups.{text_of, valued_by, write_parts};
 ghost use Rattle.session_facts.specs.Numbering.{stop_of};
 ghost use Rattle.machine_model.specs.Plans.{gave, refused};
+ghost use Rattle.machine_model.specs.declared.parts.Choice.TheVariants.{Decides};
 ghost use Rattle.machine_model.specs.declared.parts.Event.TheVariants.{Stopped as a_stop};
 ghost use Rattle.machine_model.specs.declared.parts.Part.TheVariants as parts;
+ghost use Rattle.machine_model.specs.declared.parts.Part.TheVariants.{Unfolds as some_choice};
 ghost use Rattle.machine_model.specs.declared.parts.StopCause.TheVariants.{Exception as by_exception};
 
 use crate::rows::failing;
 use dap_messages::Failure;
 use jdwp_values::{ClassId, ThreadId};
 use machine_model::{
-    Body, Choice, Deed, Event, Finding, Lookup, Note, Outcome, Part, StopCause, Stopping,
+    Body, Choice, Deed, Event, Finding, Lookup, Note, Outcome, Part, StopCause, Stopping, Strike,
+    Texts,
 };
 use session_facts::{Numbers, body_of, shown_by};
 use std::alloc::Global;
@@ -43,6 +47,7 @@ fn classes_of(alloc: Global, finding: Finding) -> List<ClassId>
         Finding::Write { .. } => List::new(alloc),
         Finding::ExceptionText(_) => List::new(alloc),
         Finding::Exception { .. } => List::new(alloc),
+        Finding::Hits { .. } => List::new(alloc),
         Finding::Classes(classes) => classes,
     }
 }
@@ -60,6 +65,7 @@ fn text_of(finding: Finding) -> Option<Text>
         Finding::Write { .. } => None,
         Finding::ExceptionText(text) => text,
         Finding::Exception { .. } => None,
+        Finding::Hits { .. } => None,
         Finding::Classes(_) => None,
     }
 }
@@ -101,6 +107,35 @@ fn write_parts(alloc: Global, finding: Finding) -> Result<VecDeque<Part>, NoMemo
     }
 }
 
+// It is decided on the composite in hand, by what is logged and what stops.
+fn decides(alloc: Global, logged: Texts, stops: List<Strike>) -> Result<VecDeque<Part>, NoMemory>
+    ensures { IfOk result (λ parts. parts.items ≡ some_choice (Decides logged stops) ∷ []) }
+{
+    Ok(VecDeque::from_array(alloc, [Part::Unfolds(Choice::Decides { logged, stops })])?)
+}
+
+// Nothing is logged, and nothing stops.
+fn none_stops(alloc: Global) -> Result<VecDeque<Part>, NoMemory>
+    ensures { IfOk result (λ parts. parts.items ≡ some_choice (Decides [] []) ∷ []) }
+{
+    decides(alloc, Texts::new(alloc), List::new(alloc))
+}
+
+// Breakpoints were judged.
+fn judged_parts(alloc: Global, finding: Finding) -> Result<VecDeque<Part>, NoMemory>
+    ensures { IfOk result (λ parts. parts.items
+        ≡ some_choice (Decides (logged_of (gave finding)) (stops_of (gave finding))) ∷ []) }
+{
+    match finding {
+        Finding::Hits {
+            passed: _,
+            logged,
+            stops,
+        } => decides(alloc, logged, stops),
+        _ => none_stops(alloc),
+    }
+}
+
 /// The parts that a look-up becomes that found something. `NoMemory` comes where memory is refused (DAP specification,
 /// Requests).
 pub fn found_parts(
@@ -137,6 +172,7 @@ pub fn found_parts(
             alloc,
             [Part::Responds(Outcome::Success(body_of(finding)))],
         )?),
+        Lookup::Hits(_) => judged_parts(alloc, finding),
         Lookup::Classes => Ok(VecDeque::from_array(
             alloc,
             [Part::Notes(Note::Classes(classes_of(alloc, finding)))],
@@ -176,6 +212,7 @@ pub fn refused_parts(
             alloc,
             [Part::Responds(Outcome::Failure(refusal(code)))],
         )?),
+        Lookup::Hits(_) => none_stops(alloc),
         Lookup::Classes => Ok(VecDeque::from_array(
             alloc,
             [Part::Notes(Note::Classes(List::new(alloc)))],

@@ -234,6 +234,7 @@ fn lookup_responds(lookup: &Lookup) -> bool
         Lookup::Write { .. } => true,
         Lookup::ExceptionText { .. } => false,
         Lookup::Exception(_) => true,
+        Lookup::Hits(_) => false,
         Lookup::Classes => false,
     }
 }
@@ -243,7 +244,8 @@ fn choice_responds(choice: &Choice) -> bool
 {
     match choice {
         Choice::TellsNews(_) => false,
-        Choice::Decides => false,
+        Choice::Judges => false,
+        Choice::Decides { .. } => false,
         Choice::Stepped => true,
         Choice::Written(_) => true,
         Choice::Leaves(_) => false,

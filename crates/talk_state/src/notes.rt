@@ -72,6 +72,10 @@ impl State {
     fn know(&mut self, alloc: Global, those: &[ClassId]) -> Result<(), NoMemory>
         ensures { OnOk result (self.new ≡ noted (Classes those.now) self.old) }
     {
+        if self.wishes.knows(&self.classes, those) {
+            return Ok(());
+        }
+        self.told = false;
         self.wishes.classes_known(alloc, &self.classes, those)
     }
 
@@ -88,6 +92,7 @@ impl State {
         let next = id_behind(self.next_entry, entries.len())?;
         if let Some(key) = key {
             self.left = None;
+            self.told = false;
             self.paths.put(alloc, &key, path)?;
             self.wishes.set_lines(alloc, key, entries)?;
         }
@@ -105,6 +110,7 @@ impl State {
     {
         let next = id_behind(self.next_entry, entries.len())?;
         self.left = None;
+        self.told = false;
         self.wishes.set_functions(alloc, entries)?;
         self.next_entry = next;
         Ok(())

@@ -1,5 +1,7 @@
 //! What a session knows.
 ghost use Rattle.std.specs.Prelude.{◌≡◌, true, IfOk, OnOk, option_map};
+ghost use Rattle.std.specs.List.{list_all};
+ghost use Rattle.machine_model.specs.Breakpoints.{has_id};
 ghost use Rattle.machine_model.specs.Plans.{answer_in};
 ghost use Rattle.machine_model.specs.Replying.{done_by, learnt, told_by};
 ghost use Rattle.session_facts.specs.Sizes.{sizes_seen};
@@ -25,7 +27,7 @@ use std::marker::Model;
 use std::mem;
 use stop_refs::Running;
 use wire_core::{List, NoMemory, Text};
-use wish_sets::Wishes;
+use wish_sets::{VerifiedEntry, Wishes};
 
 /// What a session knows. It has to be spent by `finish`.
 pub struct State {
@@ -67,12 +69,16 @@ pub struct State {
     pub terminated: bool,
     /// The classes that may lack something, where that was found out. Contracts see nothing of it.
     pub left: Option<OpenClasses>,
+    /// Whether it was found out that the client knows of each breakpoint that is verified. Contracts see nothing of it.
+    pub told: bool,
 }
 
 impl Model for State {
     ghost use Rattle.std.specs.Prelude.{IfSome, option_map};
+    ghost use Rattle.std.specs.Bool.{OnTrue};
     ghost use Rattle.class_tables.specs.Lookups.{found_in};
     ghost use Rattle.machine_model.specs.State.{State as AState};
+    ghost use Rattle.talk_state.specs.News.{AreTold};
     ghost use Rattle.session_facts.specs.Numbering.{has_stop, stop_of};
     ghost use Rattle.session_facts.specs.OpenClasses.{AreOpen};
     ghost use Rattle.session_facts.specs.Sizes.{sizes_seen};
@@ -101,7 +107,8 @@ impl Model for State {
       terminated = s.terminated;
     } };
 
-    ghost invariant = { λ s. IfSome s.left (λ left. AreOpen s.wishes.wanted (found_in s.classes) left) };
+    ghost invariant = { λ s. (IfSome s.left (λ left. AreOpen s.wishes.wanted (found_in s.classes) left))
+        × OnTrue s.told (AreTold s.wishes s.bound) };
 }
 
 impl State {
@@ -134,6 +141,7 @@ impl State {
             configured: false,
             terminated: false,
             left: None,
+            told: false,
         })
     }
 
@@ -243,6 +251,7 @@ impl State {
             configured: _,
             terminated: _,
             left: _,
+            told: _,
         } = self;
         spend(numbers);
     }
@@ -257,8 +266,12 @@ impl State {
                 self.phase = attached_from(self.phase);
                 Ok(())
             }
-            Event::News(News::Verified(entry)) => self.bound.add(entry.id),
+            Event::News(News::Verified(entry)) => {
+                self.told = false;
+                self.bound.add(entry.id)
+            }
             Event::News(News::Thread { thread, .. }) => self.threads.add(*thread),
+            Event::Logged(_) => Ok(()),
             Event::Stopped(stopping) => {
                 begin_stop(alloc, &mut self.numbers)?;
                 self.threads.add(stopping.thread)
@@ -365,6 +378,18 @@ impl State {
         Ok(())
     }
 
+    /// It is found out whether the client knows of each breakpoint that is verified. Contracts don't see it: they say that
+    /// nothing changes. `NoMemory` comes where memory is refused (DAP specification, Events, Breakpoint).
+    pub fn find_news(&mut self, alloc: Global) -> Result<(), NoMemory>
+        ensures { OnOk result (self.new ≡ self.old) }
+    {
+        if !self.told {
+            let verified = self.wishes.verified(alloc)?;
+            self.told = all_told(&self.bound, verified.as_slice());
+        }
+        Ok(())
+    }
+
     /// What the reply to the effect that was due tells is known from now on. No list changes, so classes that lack nothing
     /// still do (JDWP, EventRequest command set, Set and Clear).
     #[tactic(auto, using(session_facts::proofs::AlikeLaws::settled_open))]
@@ -373,8 +398,25 @@ impl State {
         ensures { self.new ≡ done_by effect.now replied.now self.old }
     {
         self.unlisted = unlisted_by(effect, replied, self.unlisted);
+        match effect {
+            Effect::Does(_) => {}
+            Effect::Set(_) => self.told = false,
+            Effect::Clear { .. } => self.told = false,
+        }
         settle(&mut self.wishes, effect, replied);
     }
+}
+
+// Whether all these breakpoints were told to be verified.
+fn all_told(bound: &BoundIds, entries: &[VerifiedEntry]) -> bool
+    ensures { result ≡ list_all (λ entry. has_id bound.now entry.id) entries.now }
+{
+    for entry in entries {
+        if !bound.has(entry.id) {
+            return false;
+        }
+    }
+    true
 }
 
 // A target that is gone stays gone.

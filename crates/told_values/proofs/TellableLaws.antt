@@ -46,7 +46,7 @@ use Rattle.dap_messages.specs.declared.told.Evaluated.{Evaluated}
 use Rattle.dap_messages.specs.declared.told.BreakMode.{BreakMode}
 use Rattle.dap_messages.specs.declared.told.BreakMode.TheVariants.{Always, Unhandled}
 use Rattle.dap_messages.specs.declared.told.Event.{Event}
-use Rattle.dap_messages.specs.declared.told.Event.TheVariants.{Initialized, Breakpoint as Changed, Terminated}
+use Rattle.dap_messages.specs.declared.told.Event.TheVariants.{Initialized, Breakpoint as Changed, Output, Terminated}
 use Rattle.dap_messages.specs.declared.told.Event.TheVariants.{Thread as ThreadChanged, Stopped as HasStopped}
 use Rattle.dap_messages.specs.declared.told.StopReason.{StopReason}
 use Rattle.dap_messages.specs.declared.told.StopReason.TheVariants.{Breakpoint as Hit, Exception, Step, Pause}
@@ -306,6 +306,12 @@ event_good seq (ThreadChanged change) s is =
 event_good seq (HasStopped stopped) s is =
     named_good seq (codes "stopped") (Some (stop_data stopped.reason stopped.thread)) s (utf8_ascii _ refl)
     (stop_good stopped.reason stopped.thread is.0 is.1)
+event_good seq (Output text) s is =
+    let body = object_of (
+    (codes "category", string (codes "console")) ∷
+    (codes "output", string text) ∷ []) in
+    let good : IsGood 6 body = (refl, (utf8_ascii (codes "console") refl, (is, tt))) in
+    named_good seq (codes "output") (Some body) s (utf8_ascii _ refl) good
 event_good seq Terminated s is = named_good seq (codes "terminated") None s (utf8_ascii _ refl) tt
 
 told_good : (seq : ℕ) (message : Told) → IsCount seq → IsTellable message → IsGood 7 (told_data seq message)

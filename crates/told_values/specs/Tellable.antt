@@ -25,7 +25,7 @@ use Rattle.dap_messages.specs.declared.told.Variable.{Variable}
 use Rattle.dap_messages.specs.declared.told.Written.{Written}
 use Rattle.dap_messages.specs.declared.told.Evaluated.{Evaluated}
 use Rattle.dap_messages.specs.declared.told.Event.{Event}
-use Rattle.dap_messages.specs.declared.told.Event.TheVariants.{Initialized, Breakpoint as Changed, Terminated}
+use Rattle.dap_messages.specs.declared.told.Event.TheVariants.{Initialized, Breakpoint as Changed, Output, Terminated}
 use Rattle.dap_messages.specs.declared.told.Event.TheVariants.{Thread as ThreadChanged, Stopped as HasStopped}
 use Rattle.dap_messages.specs.declared.told.StopReason.{StopReason}
 use Rattle.dap_messages.specs.declared.told.StopReason.TheVariants.{Breakpoint as Hit, Exception, Step, Pause}
@@ -122,6 +122,7 @@ IsTellableEvent Initialized = Unit {0}
 IsTellableEvent (Changed breakpoint) = IsTellableBreakpoint breakpoint
 IsTellableEvent (ThreadChanged change) = IsCount change.id
 IsTellableEvent (HasStopped stopped) = IsTellableReason stopped.reason × IsCount stopped.thread
+IsTellableEvent (Output text) = IsUtf8 text
 IsTellableEvent Terminated = Unit {0}
 
 -- a message (DAP specification, Base Protocol, ProtocolMessage)
