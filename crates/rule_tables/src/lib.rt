@@ -1,0 +1,6 @@
+//! A table of the rules of breakpoints: conditions, hit conditions and messages to log, and how often each was passed.
+#![tactic(auto)]
+
+mod rules;
+
+pub use rules::RuleTable;
