@@ -10,7 +10,8 @@ use Rattle.run_outcomes.specs.declared.printing.Outcome.{Outcome}
 use Rattle.run_outcomes.specs.declared.printing.Outcome.TheVariants.{Misused, NotOpened, Summed, Ended}
 use Rattle.command_words.specs.declared.words.Addresses.{Addresses}
 use Rattle.command_words.specs.declared.words.ScriptNumber.{ScriptNumber}
-use Rattle.command_words.specs.declared.words.Task.TheVariants.{Serve, Script, Replay, Generate, Record}
+use Rattle.command_words.specs.declared.words.Task.TheVariants.{Serve, Script, Replay, Generate, Record, Dump}
+use Rattle.bridge_runs.specs.Dumping.{Dumps}
 use Rattle.bridge_runs.specs.Recording.{Records}
 use Rattle.bridge_runs.specs.Writing.{IsWritten}
 use Rattle.bridge_serve.specs.Serving.{Blames, Idles, Keeps}
@@ -89,7 +90,8 @@ pub data Generates (number : ℕ) (name : List ℕ) (old : Store) : Store → Ou
 
 -- What the words make of the wires and the files, and the outcome: where they are refused nothing is done; else a
 -- session is served, or the links are not opened; or a script is played; or a session log is replayed; or a session of
--- a number is summed up; or a session is recorded. Want of memory may come before anything is done.
+-- a number is summed up; or a session is recorded; or the stacks of all threads are taken. Want of memory may come before
+-- anything is done.
 pub data Does : List (List ℕ) → Outside → Outside → Store → Store → Outcome → Type 0 where
   misused : {words : List (List ℕ)} {o : Outside} {s : Store} → AreRefused words → Does words o o s s Misused
   forgets : {words : List (List ℕ)} {o : Outside} {s : Store} → Does words o o s s (Ended NoMemory)
@@ -108,6 +110,8 @@ pub data Does : List (List ℕ) → Outside → Outside → Store → Store → 
   records : {words : List (List ℕ)} {addresses : Addresses} {name : List ℕ} {old new : Outside} {s s' : Store}
       {outcome : Outcome} → Names words (Record addresses name) → Records addresses name old new s s' outcome
       → Does words old new s s' outcome
+  dumps : {words : List (List ℕ)} {target : List ℕ} {old new : Outside} {s : Store} {outcome : Outcome}
+      → Names words (Dump target) → Dumps target old new outcome → Does words old new s s outcome
 
 -- what a run finds and what it leaves: its wires, its files, and what is printed
 pub record Surroundings : Type 0 where

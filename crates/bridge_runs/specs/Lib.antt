@@ -1,3 +1,4 @@
 pub mod Writing
 pub mod Recording
+pub mod Dumping
 pub mod Command

@@ -5,6 +5,7 @@ ghost use Rattle.bridge_runs.specs.Command.{Does, Runs};
 ghost use Rattle.command_words.specs.Words.{IsNumbered, IsValue, Names, said, usage_words};
 ghost use Rattle.command_words.specs.declared.words.Task.{Task as TheTask};
 
+use crate::dumping::dump_from;
 use crate::generate::generate;
 use crate::record::record_to;
 use crate::replay::replay;
@@ -22,7 +23,8 @@ use wire_core::{Files, Output, Wires, Word};
 /// this session. `replay LOG` reads the session log in the file LOG, serves a session over what came in it, and prints
 /// the log of this session. `generate N --out FILE` serves a session between the client and the target of the script of
 /// the number N, writes the log of this session to the file FILE, and prints its summary. `record --listen A --target B
-/// --out FILE` serves a session as `serve` does, writes its log to the file FILE, and prints a line. It is printed once all
+/// --out FILE` serves a session as `serve` does, writes its log to the file FILE, and prints a line. `dump --target B`
+/// connects to a Java machine at B, and prints the stacks of all its threads, with their values. It is printed once all
 /// else is done.
 pub fn bridge_main<W: Wires, F: Files, O: Output>(
     alloc: Global,
@@ -60,6 +62,7 @@ fn run<W: Wires, F: Files>(alloc: Global, words: &[Word], wires: &mut W, files: 
         Ok(Task::Replay(name)) => replay(alloc, name, files),
         Ok(Task::Generate(number, out)) => generate(alloc, number.number, out, files),
         Ok(Task::Record(addresses, out)) => record_to(alloc, addresses, out, wires, files),
+        Ok(Task::Dump(target)) => dump_from(alloc, target, wires),
         Err(WordsFault::Refused) => Outcome::Misused,
         Err(WordsFault::NoMemory) => Outcome::Ended(Ending::NoMemory),
     }

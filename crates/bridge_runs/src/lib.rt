@@ -2,6 +2,7 @@
 #![tactic(auto)]
 
 mod command;
+mod dumping;
 mod generate;
 mod laws;
 mod record;

@@ -22,7 +22,7 @@ use Rattle.clap.proofs.SimpleLemmas.{is_false, is_nil}
 use Rattle.command_words.specs.Forms.{Form, Part, bare_app, form_app, form_of, names_of, rule_for, rules_of}
 use Rattle.command_words.specs.Words.{HasAll, IsBare}
 use Rattle.command_words.specs.declared.forms.Kind.{Kind}
-use Rattle.command_words.specs.declared.forms.Kind.TheVariants.{Serve, Script, Replay, Generate, Record}
+use Rattle.command_words.specs.declared.forms.Kind.TheVariants.{Serve, Script, Replay, Generate, Record, Dump}
 
 -- no two of these names are one
 abbrev apart : List (List ℕ) → Bool
@@ -44,6 +44,7 @@ all_fit Script = refl
 all_fit Replay = refl
 all_fit Generate = refl
 all_fit Record = refl
+all_fit Dump = refl
 
 -- a rule of one value that has to be there
 abbrev IsRequired : Rule → Type 0

@@ -15,7 +15,7 @@ use Rattle.command_words.specs.declared.forms.Kind.TheVariants as kind
 use Rattle.command_words.specs.declared.words.Addresses.{Addresses}
 use Rattle.command_words.specs.declared.words.ScriptNumber.{ScriptNumber}
 use Rattle.command_words.specs.declared.words.Task.{Task}
-use Rattle.command_words.specs.declared.words.Task.TheVariants.{Serve, Script, Replay, Generate, Record}
+use Rattle.command_words.specs.declared.words.Task.TheVariants.{Serve, Script, Replay, Generate, Record, Dump}
 
 serve_words : (addresses : Addresses) → usage_words (Serve addresses)
     ≡ codes "serve" ∷ codes "--listen" ∷ addresses.listen ∷ codes "--target" ∷ addresses.target ∷ []
@@ -34,6 +34,9 @@ generate_words number file = refl
 record_words : (addresses : Addresses) (file : List ℕ) → usage_words (Record addresses file)
     ≡ codes "record" ∷ codes "--listen" ∷ addresses.listen ∷ codes "--target" ∷ addresses.target ∷ codes "--out" ∷ file ∷ []
 record_words addresses file = refl
+
+dump_words : (target : List ℕ) → usage_words (Dump target) ≡ codes "dump" ∷ codes "--target" ∷ target ∷ []
+dump_words target = refl
 
 in_found : (kinds : List Kind) (name : List ℕ) (kind : Kind) → kind_in kinds name ≡ Some kind → (form_of kind).name ≡ name
 in_found [] name kind found = cc
@@ -173,6 +176,11 @@ number_given : (b c : ℕ) (bs cs : List ℕ) → nat_eq b 45 ≡ false → nat_
 unfolding form_fault form_given clap_on_literals
 number_given b c bs cs number out = (simp (number, out) refl, simp (number, out) refl)
 
+target_alone : (b : ℕ) (bs : List ℕ) → nat_eq b 45 ≡ false
+    → Gives (form_of kind.Dump) (codes "--target" ∷ (b ∷ bs) ∷ []) ((b ∷ bs) ∷ [])
+unfolding form_fault form_given clap_on_literals
+target_alone b bs target = (simp target refl, simp target refl)
+
 serve_taken : (listen target : List ℕ) → IsValue listen → IsValue target
     → Gives (form_of kind.Serve) (codes "--listen" ∷ listen ∷ codes "--target" ∷ target ∷ []) (listen ∷ target ∷ [])
 serve_taken [] target h k = absurd h
@@ -193,6 +201,11 @@ generate_taken : (digits out : List ℕ) → IsValue digits → IsValue out
 generate_taken [] out h k = absurd h
 generate_taken (b ∷ bs) [] h k = absurd k
 generate_taken (b ∷ bs) (c ∷ cs) h k = number_given b c bs cs (ne_eqb b 45 h) (ne_eqb c 45 k)
+
+dump_taken : (target : List ℕ) → IsValue target
+    → Gives (form_of kind.Dump) (codes "--target" ∷ target ∷ []) (target ∷ [])
+dump_taken [] h = absurd h
+dump_taken (b ∷ bs) h = target_alone b bs (ne_eqb b 45 h)
 
 file_taken : (name sign file : List ℕ) → IsValue file
     → Gives (record { name = name; parts = value (codes "file") sign ∷ [] }) (file ∷ []) (file ∷ [])
@@ -218,3 +231,4 @@ usage_taken (Generate script file) (digits, (out, _)) number =
     named (Generate script file) refl (generate_taken script.digits file digits out) number
 usage_taken (Record addresses file) (listen, (target, (out, _))) number =
     named (Record addresses file) refl (record_taken addresses.listen addresses.target file listen target out) number
+usage_taken (Dump target) (h, _) number = named (Dump target) refl (dump_taken target h) number

@@ -8,7 +8,7 @@ use Rattle.clap.specs.declared.builder.action.ArgAction.TheVariants.{Set}
 use Rattle.command_words.specs.declared.forms.Part.{Part as CodePart}
 use Rattle.command_words.specs.declared.forms.Part.TheVariants.{Option as an_option, Value as a_value}
 use Rattle.command_words.specs.declared.forms.Kind.{Kind}
-use Rattle.command_words.specs.declared.forms.Kind.TheVariants.{Serve, Script, Replay, Generate, Record}
+use Rattle.command_words.specs.declared.forms.Kind.TheVariants.{Serve, Script, Replay, Generate, Record, Dump}
 
 -- a value that a command has to be given: the name of it, and what stands for it in the usage line
 pub record Part : Type 0 where
@@ -50,10 +50,11 @@ form_of Record = record {
   parts = option (codes "listen") (codes "A") ∷ option (codes "target") (codes "B") ∷ option (codes "out") (codes "FILE")
       ∷ [];
 }
+form_of Dump = record { name = codes "dump"; parts = option (codes "target") (codes "B") ∷ [] }
 
 -- the commands, in the order of the usage line
 abbrev pub kinds : List Kind
-kinds = Serve ∷ Script ∷ Replay ∷ Generate ∷ Record ∷ []
+kinds = Serve ∷ Script ∷ Replay ∷ Generate ∷ Record ∷ Dump ∷ []
 
 -- the first of these commands that has this name
 abbrev pub kind_in : List Kind → List ℕ → Option Kind

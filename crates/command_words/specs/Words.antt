@@ -11,7 +11,7 @@ use Rattle.command_words.specs.declared.forms.Kind.{Kind}
 use Rattle.command_words.specs.declared.forms.Kind.TheVariants as kind
 use Rattle.command_words.specs.declared.words.ScriptNumber.{ScriptNumber}
 use Rattle.command_words.specs.declared.words.Task.{Task}
-use Rattle.command_words.specs.declared.words.Task.TheVariants.{Serve, Script, Replay, Generate, Record}
+use Rattle.command_words.specs.declared.words.Task.TheVariants.{Serve, Script, Replay, Generate, Record, Dump}
 use Rattle.command_words.specs.declared.words.WordsFault.{WordsFault}
 use Rattle.command_words.specs.declared.words.WordsFault.TheVariants.{Refused, NoMemory}
 
@@ -30,6 +30,7 @@ said (Script file) = (kind.Script, file ∷ [])
 said (Replay file) = (kind.Replay, file ∷ [])
 said (Generate number file) = (kind.Generate, number.digits ∷ file ∷ [])
 said (Record addresses file) = (kind.Record, addresses.listen ∷ addresses.target ∷ file ∷ [])
+said (Dump target) = (kind.Dump, target ∷ [])
 
 -- each value of a command is given, by its name
 abbrev pub HasAll : Kind → (List ℕ → Option (List ℕ)) → Type 0
@@ -42,6 +43,7 @@ IsNumbered (Script file) = Unit {0}
 IsNumbered (Replay file) = Unit {0}
 IsNumbered (Generate number file) = number_in number.digits ≡ Some number.number
 IsNumbered (Record addresses file) = Unit {0}
+IsNumbered (Dump target) = Unit {0}
 
 -- whether what is given for the number of a script, where the command has one, is a number
 abbrev pub is_numbered : Kind → (List ℕ → Option (List ℕ)) → Bool
@@ -50,6 +52,7 @@ is_numbered kind.Script given = true
 is_numbered kind.Replay given = true
 is_numbered kind.Generate given = is_some (option_and_then number_in (given (codes "number")))
 is_numbered kind.Record given = true
+is_numbered kind.Dump given = true
 
 -- the task of a command that was given these values, by their names
 pub record IsTask (kind : Kind) (given : List ℕ → Option (List ℕ)) (task : Task) : Type 0 where

@@ -10,6 +10,7 @@ pub enum Kind {
     Replay,
     Generate,
     Record,
+    Dump,
 }
 
 /// A value that a command has to be given: behind the name of an option, or alone, so that only `clap` knows its name.
@@ -20,12 +21,13 @@ pub enum Part<'a> {
 }
 
 /// The commands, in the order of the usage line.
-pub(crate) const KINDS: [Kind; 5] = [
+pub(crate) const KINDS: [Kind; 6] = [
     Kind::Serve,
     Kind::Script,
     Kind::Replay,
     Kind::Generate,
     Kind::Record,
+    Kind::Dump,
 ];
 
 /// The words of a command: its name, and the values that it has to be given.
@@ -46,6 +48,7 @@ pub(crate) fn form_of<'a>(kind: Kind) -> (&'a str, &'a [Part<'a>])
                 Part::Option("out"),
             ],
         ),
+        Kind::Dump => ("dump", &[Part::Option("target")]),
     }
 }
 
@@ -61,5 +64,5 @@ pub fn usage() -> &'static str
     ensures { result.now ≡ usage_line }
 {
     "usage: bridge serve --listen A --target B, script FILE, replay LOG, generate N --out FILE, \
-        record --listen A --target B --out FILE\n"
+        record --listen A --target B --out FILE, dump --target B\n"
 }

@@ -28,8 +28,8 @@ pub struct ScriptNumber {
 }
 
 /// What the words ask for: a session between these addresses, one of the script in this file, the session log of this
-/// file once more, a session of the script of this number whose log goes to this file, or a session between these
-/// addresses that is recorded in this file.
+/// file once more, a session of the script of this number whose log goes to this file, a session between these
+/// addresses that is recorded in this file, or the stacks of all threads of the target at this address.
 #[derive(Debug, Drop)]
 pub enum Task {
     Serve(Addresses),
@@ -37,6 +37,7 @@ pub enum Task {
     Replay(Word),
     Generate(ScriptNumber, Word),
     Record(Addresses, Word),
+    Dump(Text),
 }
 
 /// Why words ask for nothing: they are refused, or memory ran out.
@@ -111,6 +112,7 @@ fn task_of(alloc: Global, kind: Kind, matches: &ArgMatches) -> Result<Task, Word
             addresses_of(alloc, matches)?,
             value_of(alloc, matches, "out")?,
         ),
+        Kind::Dump => Task::Dump(value_of(alloc, matches, "target")?),
     })
 }
 

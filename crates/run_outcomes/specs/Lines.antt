@@ -2,7 +2,7 @@
 use Rattle.std.specs.Prelude.{ℕ, ◌≡◌, Bool, true, false, if◌then◌else◌, nat_eq, List, ◌++◌, codes, decimal}
 use Rattle.run_outcomes.specs.declared.printing.Outcome.{Outcome}
 use Rattle.run_outcomes.specs.declared.printing.Outcome.TheVariants.{Misused, NotOpened, NotUsed, BadLine, Logged, Summed}
-use Rattle.run_outcomes.specs.declared.printing.Outcome.TheVariants.{TooLong as too_long, Ended}
+use Rattle.run_outcomes.specs.declared.printing.Outcome.TheVariants.{TooLong as too_long, Dumped, TargetGone, Ended}
 use Rattle.command_words.specs.Forms.{usage_line}
 use Rattle.dap_frames.specs.declared.fault.FrameFault.{FrameFault}
 use Rattle.dap_frames.specs.declared.fault.FrameFault.TheVariants.{NoLength, TwoLengths, BadLength, TooLong}
@@ -146,6 +146,8 @@ text_of too_long = codes "ended 10 script line 0 TooLong\n"
 text_of (BadLine line kind) = faulty_line line kind
 text_of (Logged log) = log
 text_of (Summed lines) = lines
+text_of (Dumped text) = text
+text_of TargetGone = codes "ended 15 target gone\n"
 text_of (Ended ending) = line_of_ending ending
 
 -- the status of an outcome
@@ -157,6 +159,8 @@ status_of too_long = 10
 status_of (BadLine line kind) = 10
 status_of (Logged log) = 0
 status_of (Summed lines) = 0
+status_of (Dumped text) = 0
+status_of TargetGone = 15
 status_of (Ended ending) = status_of_ending ending
 
 -- the status in place of another where the text could not be written: that of want of memory stays

@@ -20,8 +20,8 @@ pub(crate) const OUT_OF_MEMORY: u8 = 70;
 
 /// What a run comes to: its words are refused; a link was not opened; a file was not read or written; one is too long, or
 /// has this fault in this line, counted from 1; a session was served of what a file says, and this is the text of its log;
-/// the log of a session was written, and these are the lines of its summary; or a session ended so, for want of memory
-/// maybe before it began.
+/// the log of a session was written, and these are the lines of its summary; this is the text of a target's stacks, or
+/// there is none, since the target had gone; or a session ended so, for want of memory maybe before it began.
 #[derive(Debug, Drop)]
 pub enum Outcome {
     Misused,
@@ -31,6 +31,8 @@ pub enum Outcome {
     BadLine { line: u32, kind: ScriptFault },
     Logged(Blob),
     Summed(Text),
+    Dumped(Blob),
+    TargetGone,
     Ended(Ending),
 }
 
@@ -47,6 +49,8 @@ pub fn tell<O: Output>(alloc: Global, outcome: Outcome, out: &mut O) -> u8
         Outcome::BadLine { line, kind } => print_made(out, faulty_line(alloc, line, kind), 10),
         Outcome::Logged(text) => print(out, text.as_slice(), 0),
         Outcome::Summed(lines) => print_line(out, lines.as_str(), 0),
+        Outcome::Dumped(text) => print(out, text.as_slice(), 0),
+        Outcome::TargetGone => print_line(out, "ended 15 target gone\n", 15),
         Outcome::Ended(ending) => tell_ending(alloc, ending, out),
     }
 }

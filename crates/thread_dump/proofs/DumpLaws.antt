@@ -4,12 +4,14 @@ use Rattle.std.proofs.Common.{Result, Ok, Err, arith, refl, sym, ap, subst, ◌�
 use Rattle.bridge_serve.specs.Serving.{Blames, IsClosed}
 use Rattle.dump_client.specs.Conversing.{start}
 use Rattle.dump_client.specs.declared.conversation.Conversation.{Conversation}
+use Rattle.dump_requests.proofs.HearLaws.{left_bad}
 use Rattle.dump_wires.proofs.FitLaws.{fits_still, told_same}
 use Rattle.dump_wires.specs.Desks.{IsNew, entries_in, outside_of}
 use Rattle.dump_wires.specs.Talking.{FailsBy, Follows, Talks, fits, outside_over, told_if}
 use Rattle.dump_wires.specs.declared.desk.Desk.{Desk}
 use Rattle.session_endings.specs.declared.ending.Ending.{Ending}
 use Rattle.session_endings.specs.declared.ending.Ending.TheVariants.{ClientLink, Done, Left, NoMemory, TargetLink}
+use Rattle.session_endings.specs.Limits.{AreLimits}
 use Rattle.session_endings.specs.declared.ending.Limits.{Limits}
 use Rattle.session_model.specs.Session.{IsLeft}
 use Rattle.thread_dump.proofs.EndLaws.{left_end, no_end}
@@ -123,11 +125,12 @@ module _ (limits : Limits) (o o' : Outside) (d d' : Desk) (new : IsNew d) (endin
     blames = blames_inside;
   }
 
-  pub other_inside : ¬ (ending ≡ Done) → IsOther ending
-  other_inside not_done = record {
+  pub other_inside : AreLimits limits → ¬ (ending ≡ Done) → IsOther ending
+  other_inside are not_done = record {
     not_done = not_done;
     not_left = λ is. no_end start d'.talk serves_inside.served serves_inside.talks (left_end serves_inside.left (inl is));
     not_lost = λ is. no_end start d'.talk serves_inside.served serves_inside.talks (left_end serves_inside.left (inr is));
+    not_bad = left_bad are serves_inside.left d'.talk serves_inside.talks;
   }
 
 module _ (limits : Limits) (o o' : Outside) (d d' : Desk) (new : IsNew d) (ending : Ending)
@@ -138,16 +141,16 @@ module _ (limits : Limits) (o o' : Outside) (d d' : Desk) (new : IsNew d) (endin
       subst (λ (e : Ending). Serves limits o o' e d'.talk) is
       (serves_inside limits o o' d d' new ending serves whole)
 
-  pub is_dump : (r : Result (List ℕ) DumpEnd) → IsEndOf ending d' r → IsDump limits o o' r
-  is_dump (Ok text) is = (d'.talk, (as_ended Done is.0 is.1.0, (is.1.1.0, is.1.1.1)))
-  is_dump (Err TargetGone) is = (d'.talk, (as_ended Done is.0 is.1.0, is.1.1))
-  is_dump (Err (Ended other)) (inl none) = inl none
-  is_dump (Err (Ended other)) (inr is) =
+  pub is_dump : AreLimits limits → (r : Result (List ℕ) DumpEnd) → IsEndOf ending d' r → IsDump limits o o' r
+  is_dump are (Ok text) is = (d'.talk, (as_ended Done is.0 is.1.0, (is.1.1.0, is.1.1.1)))
+  is_dump are (Err TargetGone) is = (d'.talk, (as_ended Done is.0 is.1.0, is.1.1))
+  is_dump are (Err (Ended other)) (inl none) = inl none
+  is_dump are (Err (Ended other)) (inr is) =
       inr (
         d'.talk,
         (
           as_ended other is.0 (sym is.1.0),
           subst IsOther (sym is.1.0)
-              (other_inside limits o o' d d' new ending serves is.0 is.1.1),
+              (other_inside limits o o' d d' new ending serves is.0 are is.1.1),
         ),
       )

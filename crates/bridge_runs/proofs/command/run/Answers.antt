@@ -36,6 +36,9 @@ returns-in-Ok-Generate g c =
 pub returns-in-Ok-Record : goal.returns-in-Ok-Record
 returns-in-Ok-Record g c = Does.records (rw c.in-Ok-Record.field-0-is at c.in-Ok-Record.ensures) c.record_to.ensures
 
+pub returns-in-Ok-Dump : goal.returns-in-Ok-Dump
+returns-in-Ok-Dump g c = Does.dumps (rw c.in-Ok-Dump.field-0-is at c.in-Ok-Dump.ensures) c.dump_from.ensures
+
 pub returns-in-Err-Refused : goal.returns-in-Err-Refused
 returns-in-Err-Refused g c = Does.misused (rw c.in-Err-Refused.field-0-is at c.in-Err-Refused.ensures)
 

@@ -29,6 +29,14 @@ pub returns-in-Summed : goal.returns-in-Summed
 unfolding text_of
 returns-in-Summed g c = rw c.in-Summed.is (rw c.as_str.ensures at c.print_line-in-Summed.ensures)
 
+pub returns-in-Dumped : goal.returns-in-Dumped
+unfolding text_of
+returns-in-Dumped g c = rw c.in-Dumped.is (rw c.as_slice-in-Dumped.ensures at c.print-in-Dumped.ensures)
+
+pub returns-in-TargetGone : goal.returns-in-TargetGone
+unfolding text_of
+returns-in-TargetGone g c = rw c.in-TargetGone.is c.print_line-in-TargetGone.ensures
+
 pub returns-in-Ended : goal.returns-in-Ended
 unfolding text_of
 returns-in-Ended g c = rw c.in-Ended.is c.tell_ending.ensures

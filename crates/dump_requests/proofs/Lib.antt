@@ -1,0 +1,4 @@
+pub mod AskLaws
+pub mod BoundLaws
+pub mod HearLaws
+mod Examples
