@@ -1,4 +1,4 @@
-ghost use Rattle.std.specs.Prelude.{◌≡◌, ◌+◌, ◌<◌, ◌≤◌, [], ◌∷◌, ◌++◌, IsTrue, ◌↔◌, IsOk, OnOk, OnErr};
+ghost use Rattle.std.specs.Prelude.{◌≡◌, ◌+◌, ◌<◌, ◌≤◌, [], ◌∷◌, ◌++◌, IsTrue, ◌↔◌, IsOk, OnOk, OnErr, MatchResult};
 ghost use Rattle.run_logs.specs.Runs.{entries_of, quiets_among, most_quiets, AreRuns, CanTake, FollowsQuiet};
 
 use crate::putting::{MOST_QUIETS, places, put, quiets_as};
@@ -27,6 +27,18 @@ impl Model for RunLog {
     ghost view = { λ l. record { entries = entries_of l.runs.items; room = vec_capacity l.runs - vec_len l.runs } };
 
     ghost invariant = { λ l. IsCounted l.runs.items l.quiets (vec_len l.runs) (vec_capacity l.runs) };
+}
+
+// How many waits there are with some more. It takes no memory: `NoMemory` comes just where they would be more than 2^62.
+fn quiets_with(quiets: u64, more: u64) -> Result<u64, NoMemory>
+    requires { quiets ≤ most_quiets }
+    ensures { MatchResult result (λ now. (now ≡ quiets + more) × (quiets + more ≤ most_quiets))
+        (λ _. most_quiets < quiets + more) }
+{
+    if MOST_QUIETS - quiets < more {
+        return Err(NoMemory);
+    }
+    Ok(quiets + more)
 }
 
 impl RunLog {
@@ -88,13 +100,10 @@ impl RunLog {
             → IsOk result }
         ensures stays { FollowsQuiet entry self.old.entries → self.old.room ≤ self.new.room }
     {
-        let quiets = quiets_as(&entry);
-        if MOST_QUIETS - self.quiets < quiets {
-            return Err(NoMemory);
-        }
+        let quiets = quiets_with(self.quiets, quiets_as(&entry))?;
         self.runs.reserve(kept + places(&entry, &self.runs))?;
         put(&mut self.runs, entry);
-        self.quiets += quiets;
+        self.quiets = quiets;
         Ok(())
     }
 

@@ -1,5 +1,6 @@
 //! What a script's client sends.
-ghost use Rattle.std.specs.Prelude.{◌≡◌, ◌+◌, ◌≤◌, ◌++◌, [], length, take, drop, OnOk, OnErr};
+ghost use Rattle.std.specs.Prelude.{◌≡◌, ◌+◌, ◌<◌, ◌≤◌, ◌^◌, ◌++◌, [], length, take, drop, OnOk, OnErr};
+ghost use Rattle.std.specs.Prelude.{MatchResult};
 ghost use Rattle.script_wires.specs.Requests.{request_frame};
 
 use crate::requests::request_frame;
@@ -17,15 +18,33 @@ pub(crate) struct Client {
     stream: StreamBuffer,
 }
 
+// More bytes go behind so many of a stream. It takes no memory: `NoMemory` comes just where they would be 2^63 or more.
+fn fit_stream(end: u64, more: usize) -> Result<(), NoMemory>
+    ensures { MatchResult result (λ _. end + more < 2 ^ 63) (λ _. 2 ^ 63 ≤ end + more) }
+{
+    if end >= LIMIT || more as u64 >= LIMIT - end {
+        return Err(NoMemory);
+    }
+    Ok(())
+}
+
+// The number behind a number. It takes no memory: `NoMemory` comes just where it would reach 2^63.
+fn number_behind(number: u64) -> Result<u64, NoMemory>
+    ensures { MatchResult result (λ next. (next ≡ number + 1) × (number + 1 < 2 ^ 63)) (λ _. 2 ^ 63 ≤ number + 1) }
+{
+    if number >= LIMIT - 1 {
+        return Err(NoMemory);
+    }
+    Ok(number + 1)
+}
+
 // Bytes go behind those of a stream; a stream of 2^63 bytes has no room for more.
 fn append(stream: &mut StreamBuffer, bytes: &[u8]) -> Result<(), NoMemory>
     ensures ok { OnOk result (stream.new.pending ≡ stream.old.pending ++ bytes.now) }
     ensures err { OnErr result (stream.new ≡ stream.old) }
 {
     let end = stream.at() + stream.pending().len() as u64;
-    if bytes.len() as u64 >= LIMIT - end {
-        return Err(NoMemory);
-    }
+    fit_stream(end, bytes.len())?;
     stream.feed(bytes)
 }
 
@@ -54,12 +73,10 @@ impl Client {
         ensures bytes { OnOk result (client_bytes self.new
             ≡ client_bytes self.old ++ request_frame (client_seq self.old) command.now arguments.now) }
     {
-        if self.next_seq >= LIMIT - 1 {
-            return Err(NoMemory);
-        }
+        let behind = number_behind(self.next_seq)?;
         let bytes = request_frame(alloc, self.next_seq, command, arguments)?;
         append(&mut self.stream, bytes.as_slice())?;
-        self.next_seq += 1;
+        self.next_seq = behind;
         Ok(())
     }
 

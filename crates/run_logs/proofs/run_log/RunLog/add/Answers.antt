@@ -2,15 +2,15 @@ use Rattle.std.proofs.Common.{◌∙◌, arith}
 use Rattle.run_logs.proofs.PutLaws.{can_take, taken, no_place}
 use Rattle.run_logs.proofs.run_log.RunLog.add.Goals as goal
 
-pub returns-then-self-quiets-clause-succeeds : goal.returns-then-self-quiets-clause-succeeds
-returns-then-self-quiets-clause-succeeds c = λ can room.
+pub returns-in_err-quiets-clause-succeeds : goal.returns-in_err-quiets-clause-succeeds
+returns-in_err-quiets-clause-succeeds c = λ can room.
     let fits = can_take _ _ c.self.invariant.are (rw (← c.self.view_is) at can) in
-    absurd (omega (arith, fits, c.self.invariant.counted, c.self.invariant.are.few))
+    absurd (omega (arith, fits, c.in_err-quiets.ensures, c.self.invariant.counted, c.self.invariant.are.few))
 
-pub returns-then-self-quiets-clause-counted : goal.returns-then-self-quiets-clause-counted
-returns-then-self-quiets-clause-counted c = λ follows can room.
+pub returns-in_err-quiets-clause-counted : goal.returns-in_err-quiets-clause-counted
+returns-in_err-quiets-clause-counted c = λ follows can room.
     let fits = can_take _ _ c.self.invariant.are (rw (← c.self.view_is) at can) in
-    absurd (omega (arith, fits, c.self.invariant.counted, c.self.invariant.are.few))
+    absurd (omega (arith, fits, c.in_err-quiets.ensures, c.self.invariant.counted, c.self.invariant.are.few))
 
 pub returns-in_err-reserve-clause-counted : goal.returns-in_err-reserve-clause-counted
 returns-in_err-reserve-clause-counted c = λ follows can room.
