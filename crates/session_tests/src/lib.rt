@@ -17,4 +17,6 @@ mod messages;
 #[cfg(test)]
 mod records;
 #[cfg(test)]
+mod sends;
+#[cfg(test)]
 mod stages;
