@@ -1,0 +1,5 @@
+mod ClassExamples
+mod ListExamples
+mod StaticLaws
+mod StopEdges
+mod Words
