@@ -1,0 +1,5 @@
+mod Examples
+mod FrontLaws
+mod Questions
+mod RunLaws
+mod Smallest

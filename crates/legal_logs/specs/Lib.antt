@@ -1,0 +1,7 @@
+pub mod Asking
+pub mod Clauses
+pub mod Endings
+pub mod Fronts
+pub mod Laws
+pub mod Readings
+pub mod Verdicts
