@@ -1,6 +1,6 @@
 -- What one call makes of the bytes that a stream has left, or holds, where these are known.
 use Rattle.std.specs.Prelude.{ℕ, ◌≡◌, ◌<◌, ◌≤◌, ◌+◌, ◌⊎◌, List, length, take, Option, Some, None}
-use Rattle.std.specs.Io.KnownBytes.{Consumes, Keeps}
+use Rattle.std.specs.Io.KnownBytes.{Appends, Consumes, Keeps}
 use Rattle.wire_core.specs.declared.outside.Side.{Side}
 use Rattle.wire_core.specs.declared.outside.Side.TheVariants.{Client, Target}
 use Rattle.wire_core.specs.declared.outside.Happening.{Happening}
@@ -15,6 +15,12 @@ Polls old new buffer (Bytes n) = (0 < n) × (n ≤ length buffer) × Consumes ol
 Polls old new buffer Ended = Keeps old new
 Polls old new buffer Broken = Keeps old new
 Polls old new buffer Nothing = Keeps old new
+
+-- a stream is there, and takes all these bytes, where it is known what it holds
+abbrev pub TakesAll : {S : Type 0} → (S → Option (List ℕ)) → Option S → Option S → List ℕ → Type 0
+TakesAll contents None new bytes = ⊥
+TakesAll contents (Some old) None bytes = ⊥
+TakesAll contents (Some old) (Some new) bytes = Appends (contents old) (contents new) bytes
 
 -- what comes of a side that was asked, where it had something
 abbrev pub heard_of : Side → Polled → Option Happening

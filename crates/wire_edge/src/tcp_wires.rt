@@ -1,7 +1,7 @@
-ghost use Rattle.std.specs.Prelude.{◌≡◌, ◌<◌, false, true, [], length, IfOk, IfSome, IfNone, OnOk, OnErr};
+ghost use Rattle.std.specs.Prelude.{◌≡◌, ◌<◌, false, true, [], length, IfOk, IfSome, IfNone, OnOk, OnErr, IsTrue};
 ghost use Rattle.wire_core.specs.Links.{IsFresh, IsPossible, is_open_in, raised};
 ghost use Rattle.wire_core.specs.Outside.{other_side, WasEmpty, IsOpen, HasOpen, Hears, Sends, FailsToSend};
-ghost use Rattle.wire_edge.specs.Streams.{Asks, AsksInTurn, GivesTurn, InTurn, IsOf, IsQuiet, heard_of};
+ghost use Rattle.wire_edge.specs.Streams.{Asks, AsksInTurn, GivesTurn, InTurn, IsOf, IsQuiet, TakesAll, heard_of};
 ghost use Rattle.wire_edge.specs.Tally.{told_by};
 
 use crate::awaiting::accept;
@@ -155,6 +155,7 @@ where
     fn send_client(&mut self, bytes: &[u8]) -> bool
         ensures tally { self.new.tally ≡ self.old.tally }
         ensures turn { self.new.turn ≡ self.old.turn }
+        ensures whole { IsTrue result → TakesAll R.Stream.contents self.old.client self.new.client bytes.now }
     {
         let Some(stream) = &mut self.client else {
             return false;
