@@ -7,6 +7,7 @@ microseconds at both sizes, and its ratio between the ends, of the least times o
 
     a hit, over loaded classes            one breakpoint is listed, and the classes stand in other packages
     a thread's event, over loaded classes threads that start and end behind a listed breakpoint
+    a thread's event, over what is listed with no breakpoint and with sixteen
     a hit, over listed breakpoints        all are bound, in one source, and one is hit
     a class that loads, over their number each in the package of the listed source; a time of many is that of one
     a step of evaluate, over the steps    an expression of so many fields
@@ -98,6 +99,12 @@ def thread_among_classes(size, count):
     return world(of_packages(size)) + moves + session(1, [])
 
 
+def thread_among_breakpoints(size, count):
+    ids = range(FIRST, FIRST + count // 2)
+    moves = [move for number in ids for move in (["start", number, "t"], ["die", number])]
+    return world(lines=size + 1) + moves + session(size, [])
+
+
 def hit_among_breakpoints(size, count):
     moves, asked = hits(count)
     return world(lines=size + 1) + moves + session(size, asked)
@@ -120,6 +127,7 @@ def step_of_evaluate(size, count):
 ROWS = (
     ("a hit, over loaded classes", hit_among_classes, (1000, 16_000), HITS, lambda size: HITS),
     ("a thread's event, over loaded classes", thread_among_classes, (1000, 16_000), EVENTS, lambda size: EVENTS),
+    ("a thread's event, over what is listed", thread_among_breakpoints, (0, 16), EVENTS, lambda size: EVENTS),
     ("a hit, over listed breakpoints", hit_among_breakpoints, (64, 1024), HITS, lambda size: HITS),
     ("a class that loads, over their number", class_among_classes, (1000, 16_000), 1, lambda size: size),
     ("a step of evaluate, over the steps", step_of_evaluate, (25, 400), EVALUATED, lambda size: EVALUATED * size),

@@ -23,7 +23,7 @@ UNPROVED = os.path.join(CRATES, "bridge_cmd", "out", "unproved")
 # How long it may take to be compiled, in seconds.
 COMPILED = 3600
 USAGE = "usage: bridge serve --listen A --target B, script FILE, replay LOG, generate N --out FILE, " \
-        "record --listen A --target B --out FILE\n"
+        "record --listen A --target B --out FILE, dump --target B\n"
 PATIENCE = 60
 # What may go wrong around a script, and in what it compares.
 TROUBLES = (OSError, EOFError, ValueError, LookupError, subprocess.SubprocessError)

@@ -62,6 +62,14 @@ REFUSED_WORDS = (
     ["generate", "1", "2", "--out", "log"],
     ["generate", "1", "--out", "log", "--out", "log"],
     ["generate", "--help"],
+    ["dump"],
+    ["dump", "B"],
+    ["dump", "--target"],
+    ["dump", "--target", "-B"],
+    ["dump", "--target", "B", "C"],
+    ["dump", "--target", "B", "--target", "B"],
+    ["dump", "--listen", "A", "--target", "B"],
+    ["dump", "--help"],
 )
 # Words that are taken: the links that they name can't be opened.
 TAKEN_WORDS = (
@@ -69,6 +77,10 @@ TAKEN_WORDS = (
     ["serve", "--target", "B", "--listen", "A"],
     ["serve", "--listen=A", "--target", "B"],
     ["serve", "--listen", "", "--target", "B"],
+    ["dump", "--target", "B"],
+    ["dump", "--target=B"],
+    ["dump", "--target", ""],
+    ["dump", "--target", "127.0.0.1:0"],
 )
 # What a client says before it closes its side: the status and the line, and how many messages it is told.
 CLIENTS = (

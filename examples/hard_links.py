@@ -1,11 +1,13 @@
 #!/usr/bin/env python3
 """The program over links as they come, and on words that aren't its own: each case runs it, and is kept or broken.
 
-- A client that comes 3 s after the program, and a target that dropped its link, on which nothing went, after 2 s.
+- A client that comes 3 s after the program, which takes next to no time of a processor meanwhile, and a target that
+  dropped its link, on which nothing went, after 2 s.
 - A connection that probes the client's port and closes without a byte, before the client comes.
 - Twenty connections that stay open and say nothing, before the client comes; and a client that speaks late, with
   fifteen silent ones behind it.
-- A target that resets its link with bytes under way, which is its end: the client is told so.
+- A target that resets its link with bytes under way, which is its end: the client is told so, also where the program
+  sends before it reads of the reset. A client that resets its link, which is its end, too.
 - Requests that come byte by byte; a request of a million bytes, whose answer, as long, is read late.
 - Answers to a client that sent more behind its `disconnect`, and reads late: all of them come.
 - The end of the session at a fault of the target, while the client goes on sending: the client is told.
@@ -35,7 +37,8 @@ from functools import partial
 
 from building import PATIENCE, USAGE, plainly, program_of, tried
 from many_threads import ATTACH, HANDSHAKE, receive, reply
-from over_tcp import INITIALIZED, DISCONNECTED, Bridge, Client, dial, request, unsupported
+from over_tcp import (INITIALIZED, DISCONNECTED, Bridge, Client, dial, event, failure, request, response,
+                      unsupported)
 
 TERMINATED = b'{"event":"terminated","seq":2,"type":"event"}'
 DISPOSE = struct.pack(">IIBBB", 11, 4, 0, 1, 6)
@@ -56,10 +59,12 @@ def two_requests(client, by=None):
 
 
 def late_client(bridge):
+    before = processor_time(bridge.process)
     time.sleep(2)
     bridge.target.close()
     time.sleep(1)
-    return two_requests(bridge.client()) and bridge.status() == 0
+    is_calm = processor_time(bridge.process) - before < IDLE
+    return is_calm and two_requests(bridge.client()) and bridge.status() == 0
 
 
 def probed_port(bridge):
@@ -91,12 +96,40 @@ def reset_by_target(bridge):
     client.send(request(1, "initialize", {"adapterID": "jdwp"}))
     first = client.receive()
     bridge.target.sendall(HANDSHAKE + b"\0\0")
-    bridge.target.setsockopt(socket.SOL_SOCKET, socket.SO_LINGER, struct.pack("ii", 1, 0))
-    bridge.target.close()
+    reset(bridge.target)
     told = client.receive()
     client.send(request(2, "disconnect"))
     wanted = [INITIALIZED, TERMINATED, DISCONNECTED.replace(b'"seq":2', b'"seq":3')]
     return [first, told, client.receive()] == wanted and bridge.status() == 0
+
+
+def reset_before_a_send(bridge):
+    client = attached(bridge)
+    # The last thing came from the target: where both have something, the client is heard first.
+    bridge.process.send_signal(signal.SIGSTOP)
+    os.waitpid(bridge.process.pid, os.WUNTRACED)
+    reset(bridge.target)
+    client.send(request(3, "threads"))
+    bridge.process.send_signal(signal.SIGCONT)
+    told = [client.receive(), client.receive()]
+    client.send(request(4, "disconnect"))
+    wanted = [failure(4, 3, "threads", 10, "targetGone"), event(5, "terminated"), response(6, 4, "disconnect")]
+    return [*told, client.receive()] == wanted and bridge.status() == 0
+
+
+def reset_by_client(bridge):
+    client = bridge.client()
+    client.send(request(1, "initialize", {"adapterID": "jdwp"}))
+    first = client.receive()
+    reset(client.stream)
+    bridge.target.close()
+    return first == INITIALIZED and bridge.status() == 1
+
+
+def reset(stream):
+    """Closes a stream so that its peer is sent a reset."""
+    stream.setsockopt(socket.SOL_SOCKET, socket.SO_LINGER, struct.pack("ii", 1, 0))
+    stream.close()
 
 
 def byte_by_byte(bridge):
@@ -301,8 +334,9 @@ def is_usage(command):
     return ran.returncode == 2 and ran.stdout == USAGE.encode()
 
 
-LINKS = (late_client, probed_port, silent_connections, late_speaker, reset_by_target, byte_by_byte,
-         long_messages, more_behind_disconnect, end_under_load, last_command, peers_that_stay, silent_links)
+LINKS = (late_client, probed_port, silent_connections, late_speaker, reset_by_target, reset_before_a_send,
+         reset_by_client, byte_by_byte, long_messages, more_behind_disconnect, end_under_load, last_command,
+         peers_that_stay, silent_links)
 ALONE = (words_of_other_bytes, one_word_more, cut_line, closed_input, closed_output, closed_error,
          in_the_background)
 

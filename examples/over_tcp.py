@@ -1,5 +1,7 @@
 """What the scripts share: the program between a client and a target on the loopback interface."""
+import itertools
 import json
+import random
 import socket
 import subprocess
 import time
@@ -40,9 +42,13 @@ def response(seq, request_seq, command, body=None):
 
 def unsupported(seq, request_seq, command):
     """The response to a request that isn't served."""
-    error = {"format": "unsupported", "id": 1}
+    return failure(seq, request_seq, command, 1, "unsupported")
+
+
+def failure(seq, request_seq, command, code, name):
+    """A response that fails (DAP specification, Base Protocol, ErrorResponse)."""
     return compact({"seq": seq, "type": "response", "request_seq": request_seq, "command": command, "success": False,
-                    "message": "unsupported", "body": {"error": error}})
+                    "message": name, "body": {"error": {"format": name, "id": code}}})
 
 
 def event(seq, name):
@@ -59,10 +65,27 @@ def thread_event(seq, reason, number):
     return compact({"body": body, "event": "thread", "seq": seq, "type": "event"})
 
 
+def ports_in_turn():
+    """Ports below those that Linux gives to links as they come, again and again, from any of them on."""
+    first, past = 12000, 32000
+    begin = random.randrange(first, past)
+    return itertools.cycle([*range(begin, past), *range(first, begin)])
+
+
+PORTS = ports_in_turn()
+
+
 def free_port():
-    with socket.socket() as probe:
-        probe.bind(("127.0.0.1", 0))
-        return probe.getsockname()[1]
+    """A port that nobody has, each time another. No link that comes up takes it before it is bound. A process that is
+    just started may still hold what tries it, so this mustn't be in the way of a listener."""
+    for port in PORTS:
+        with socket.socket() as probe:
+            probe.setsockopt(socket.SOL_SOCKET, socket.SO_REUSEADDR, 1)
+            try:
+                probe.bind(("127.0.0.1", port))
+            except OSError:
+                continue
+        return port
 
 
 def dial(port, process=None):
