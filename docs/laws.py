@@ -16,10 +16,15 @@ PAGE = os.path.join(TOP, "docs", "LAWS.md")
 FIRST = {
     "session_laws": "Of every session, by its bytes",
     "session_causes": "Of every ending, by its first cause",
+    "legal_logs": "Of legal logs, and of verdicts on others",
     "machine_laws": "Of every run of the machine, and of every look-up",
+    "lacking_laws": "Of what look-ups lack as replies come",
     "joint_model": "Of the machine beside a target that obeys JDWP",
+    "joint_facts": "Of what is known of classes beside such a target",
+    "joint_examples": "Of what a target that obeys JDWP may choose",
     "shown_worlds": "Of what look-ups show of a target's world",
     "scripted_joints": "Of the machine beside a scripted target",
+    "script_courses": "Of a script's sessions",
 }
 HEAD = """\
 # The laws
