@@ -23,6 +23,7 @@ FIRST = {
     "joint_facts": "Of what is known of classes beside such a target",
     "joint_examples": "Of what a target that obeys JDWP may choose",
     "shown_worlds": "Of what look-ups show of a target's world",
+    "judged_worlds": "Of what hits come to in a target's world",
     "scripted_joints": "Of the machine beside a scripted target",
     "script_courses": "Of a script's sessions",
 }

@@ -2,5 +2,7 @@
 #![tactic(auto)]
 
 mod rules;
+mod texts;
 
 pub use rules::RuleTable;
+pub use texts::{ReadRules, Said, read_rules};

@@ -53,12 +53,12 @@ use Rattle.world_model.specs.declared.rows.WorldFrame.{WorldFrame}
 use Rattle.world_model.specs.declared.world.World.{World}
 
 -- what was sought, as the world has it
-abbrev found_as : World → machine.Sought → shown.Sought
+abbrev pub found_as : World → machine.Sought → shown.Sought
 found_as w (Ok v) = Ok (placed w v)
 found_as w (Err failure) = Err failure
 
 -- a plan finds this in the world
-abbrev Finds : World → Plan machine.Sought → Option shown.Sought → Type 0
+abbrev pub Finds : World → Plan machine.Sought → Option shown.Sought → Type 0
 Finds w p there = option_map (found_as w) (of_world (living_reply w) p) ≡ there
 
 missing_there : (w : World) (failure : Failure) → Finds w (missing failure) (Some (Err failure))
@@ -304,7 +304,7 @@ head_there w frame (heads.Name name) live =
 
 -- The look-up ---------------------------------------------------------------------------------------------------------
 
-named_there : (w : World) (frame : FrameThing) (e : Expr) → IsLive w
+pub named_there : (w : World) (frame : FrameThing) (e : Expr) → IsLive w
     → Finds w (named_in frame e) (shown.named_in w frame e)
 named_there w frame e live =
     ap (option_map (found_as w)) (said_chained (living_reply w) (head_in frame e.head) (on_value (hops_on e.steps)))

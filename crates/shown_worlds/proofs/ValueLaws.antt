@@ -69,7 +69,7 @@ text_found : (code : ℕ) (there : Option WorldString)
 text_found code None = refl
 text_found code (Some row) = refl
 
-text_there : (w : World) (n : ℕ) → of_world (living_reply w) (text_plan n)
+pub text_there : (w : World) (n : ℕ) → of_world (living_reply w) (text_plan n)
     ≡ option_map (λ (row : WorldString). row.text) (string_in w (object n))
 unfolding of_world
 text_there w n =

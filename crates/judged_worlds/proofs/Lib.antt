@@ -1,0 +1,3 @@
+pub mod CalmPlans
+pub mod PathLaws
+pub mod HitLaws

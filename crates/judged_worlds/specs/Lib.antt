@@ -1,0 +1,3 @@
+pub mod PathRows
+pub mod HitRows
+pub mod Laws
