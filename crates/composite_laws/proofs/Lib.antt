@@ -1,0 +1,3 @@
+pub mod DealingLaws
+pub mod OwedParts
+pub mod StruckHands
