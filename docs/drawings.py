@@ -23,7 +23,8 @@ PROVED, MODEL, EDGE, OUTSIDE = "#dceafa", "#e3f1dc", "#fbe3c8", "#ffffff"
 ROWS = [
     [(1, PROVED, "bridge_cmd", "the program, over what the edge gives")],
     [(1, PROVED, "bridge_runs", "a run: words in, a line and a status out"),
-     (0.5, MODEL, "legal_logs", "which logs are legal")],
+     (0.5, MODEL, "legal_logs", "which logs are legal"),
+     (0.5, MODEL, "clean_sessions", "where nothing goes wrong")],
     [(1, PROVED, "run_outcomes", "lines and statuses"), (1, PROVED, "file_wires", "wires over a file"),
      (0.9, PROVED, "recorded_sessions", "sessions, recorded"), (0.9, PROVED, "thread_dump", "all stacks"),
      (1, PROVED, "printed_scripts", "scripts as text"), (1, MODEL, "script_courses", "a script's one course"),

@@ -16,6 +16,7 @@ PAGE = os.path.join(TOP, "docs", "LAWS.md")
 FIRST = {
     "session_laws": "Of every session, by its bytes",
     "session_causes": "Of every ending, by its first cause",
+    "clean_sessions": "Of sessions in which nothing goes wrong",
     "legal_logs": "Of legal logs, and of verdicts on others",
     "machine_laws": "Of every run of the machine, and of every look-up",
     "lacking_laws": "Of what look-ups lack as replies come",
