@@ -86,7 +86,7 @@ row_of w read store child = record {
   store = store child.place;
 }
 
-child_there : (w : World) (types : Bool) (child : Child) (value : Value) → IsSound w
+pub child_there : (w : World) (types : Bool) (child : Child) (value : Value) → IsSound w
     → of_world (living_reply w) (child_plan types (child, value))
     ≡ option_map (shown.shown_as child.name)
     (values_shown.shown w types (record { value = value; signature = signature_at w child.declared }))
@@ -206,7 +206,7 @@ receiver_page P one all more (suc n) zero vs =
     subst P (ap (λ l. one ∷ l) (sym (take-map of_variable n vs))) (more (take n vs))
 receiver_page P one all more (suc n) (suc start) vs = variables_page P all (suc n) start vs
 
-local_page : (w : World) (frame : FrameThing) (row : WorldFrame) → shown.frame_row w frame ≡ Some row
+pub local_page : (w : World) (frame : FrameThing) (row : WorldFrame) → shown.frame_row w frame ≡ Some row
     → (value : Value) (id n start : ℕ) (vs : List Variable)
     → Local w frame row (take n (drop start (of_this value id ++ map of_variable vs)))
 local_page w frame row is value zero n start vs =

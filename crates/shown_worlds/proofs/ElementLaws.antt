@@ -20,6 +20,7 @@ use Rattle.machine_model.specs.Variables.{elements_page, elements_plan, elements
 use Rattle.machine_model.specs.Writing.{element_store}
 use Rattle.machine_model.specs.declared.parts.Store.TheVariants as stores
 use Rattle.shown_worlds.specs.ChildRows as shown
+use Rattle.shown_worlds.specs.Paging.{page}
 use Rattle.shown_worlds.proofs.ChildLaws.{and_then_of_map, children_said, row_of}
 use Rattle.shown_worlds.proofs.FactLaws.{object}
 use Rattle.shown_worlds.proofs.FrameLaws.{paged}
@@ -38,7 +39,7 @@ use Rattle.world_model.specs.declared.world.World.{World}
 
 -- Elements that are asked for -----------------------------------------------------------------------------------------
 
-counted_le : (total start count : ℕ) → count_from total start count ≤ total - start
+pub counted_le : (total start count : ℕ) → count_from total start count ≤ total - start
 counted_le total start zero = omega arith
 counted_le total start (suc count) = omega arith
 
@@ -92,20 +93,20 @@ elements_there w n row start (suc count) sound is within =
 -- As the world has them -----------------------------------------------------------------------------------------------
 
 -- the value at an index
-abbrev read_element : List Value → Place → Option Value
+abbrev pub read_element : List Value → Place → Option Value
 read_element items (at_index i) = slice_get items i
 read_element items (is_known value) = None
 read_element items (in_slot slot tag) = None
 read_element items (in_field field) = None
 
-abbrev element_row : World → ℕ → List Value → Child → shown.Child
+abbrev pub element_row : World → ℕ → List Value → Child → shown.Child
 element_row w n items = row_of w (read_element items) (element_store n)
 
 -- an element that is there
 value_at : (items : List Value) (i : ℕ) → i < length items → slice_get items i ≡ Some (get_or items i values.Void)
 value_at items i within = slice_get-get_or items i values.Void within
 
-elements_row : (w : World) (n : ℕ) (items : List Value) (count start : ℕ) → start + count ≤ length items
+pub elements_row : (w : World) (n : ℕ) (items : List Value) (count start : ℕ) → start + count ≤ length items
     → map (element_row w (suc n) items) (elements_of (suc n) start count)
     ≡ take count (shown.elements_in w (object (suc n)) start (drop start items))
 elements_row w n items zero start within = refl
@@ -136,7 +137,7 @@ elements_many : (w : World) (n from : ℕ) (items : List Value)
 elements_many w n from [] = refl
 elements_many w n from (value ∷ others) = ap suc (elements_many w n (from + 1) others)
 
-all_read : (items : List Value) (n count start : ℕ) → start + count ≤ length items
+pub all_read : (items : List Value) (n count start : ℕ) → start + count ≤ length items
     → all_of (λ (child : Child). read_element items child.place) (elements_of n start count)
     ≡ Some (take count (drop start items))
 all_read items n zero start within = refl
@@ -184,6 +185,20 @@ elements_counted w types n row start count zero sound is within = none_said w ty
 elements_counted w types n row start count (suc found) sound is within =
     elements_said w types n row start (suc found) sound is (omega (arith, within))
 
+-- those that are asked for are a page
+pub elements_paged : (w : World) (n start count : ℕ) (row : WorldArray)
+    → take (count_from (length row.values) start count)
+    (shown.elements_in w (object (suc n)) start (drop start row.values))
+    ≡ page start count (shown.elements_in w (object (suc n)) 0 row.values)
+elements_paged w n start count row =
+    ap (λ i. take (count_from (length row.values) start count)
+    (shown.elements_in w (object (suc n)) i (drop start row.values)))
+    (let zero_on : start ≡ 0 + start = omega arith in zero_on)
+    ∙ ap (take (count_from (length row.values) start count)) (sym (elements_dropped w (suc n) 0 start row.values))
+    ∙ ap (λ total. take (count_from total start count) (drop start (shown.elements_in w (object (suc n)) 0 row.values)))
+    (sym (elements_many w (suc n) 0 row.values))
+    ∙ paged start count (shown.elements_in w (object (suc n)) 0 row.values)
+
 elements_by : (w : World) (types : Bool) (n start count : ℕ) (there : Option WorldArray) → IsSound w
     → array_in w (object (suc n)) ≡ there
     → option_and_then (λ pairs. of_world (living_reply w) (shown_plan types pairs))
@@ -195,14 +210,7 @@ elements_by w types n start count None sound is = refl
 elements_by w types n start count (Some row) sound is =
     elements_counted w types n row start count (count_from (length row.values) start count) sound is
     (counted_le (length row.values) start count)
-    ∙ ap (all_of (shown.child_shown w types))
-    (ap (λ i. take (count_from (length row.values) start count)
-    (shown.elements_in w (object (suc n)) i (drop start row.values)))
-    (let zero_on : start ≡ 0 + start = omega arith in zero_on)
-    ∙ ap (take (count_from (length row.values) start count)) (sym (elements_dropped w (suc n) 0 start row.values))
-    ∙ ap (λ total. take (count_from total start count) (drop start (shown.elements_in w (object (suc n)) 0 row.values)))
-    (sym (elements_many w (suc n) 0 row.values))
-    ∙ paged start count (shown.elements_in w (object (suc n)) 0 row.values))
+    ∙ ap (all_of (shown.child_shown w types)) (elements_paged w n start count row)
 
 -- a page of an array's elements
 pub elements_shown : (w : World) (types : Bool) (n start count : ℕ) → IsSound w

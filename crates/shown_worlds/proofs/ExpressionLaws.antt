@@ -206,7 +206,7 @@ index_there : (w : World) (i : ℕ) (value : Value) → IsSound w → Finds w (i
 index_there w i (values.Array o) sound = on_element w i o.0 sound
 index_there w i _ sound = missing_there w bad_index
 
-hop_there : (w : World) (hop : Hop) (value : Value) → IsLive w → Finds w (hop_on hop value) (shown.step_on w hop value)
+pub hop_there : (w : World) (hop : Hop) (value : Value) → IsLive w → Finds w (hop_on hop value) (shown.step_on w hop value)
 hop_there w (hops.Field name) value live = name_there w name value live
 hop_there w (hops.Index i) value live = index_there w i value live.sound
 
@@ -247,7 +247,7 @@ this_same w (values.ClassLoader o) = this_id w (values.ClassLoader o) o.0
 this_same w (values.ClassObject o) = this_id w (values.ClassObject o) o.0
 this_same w _ = refl
 
-abbrev slot_of : Variable → Slot
+abbrev pub slot_of : Variable → Slot
 slot_of v = record { slot = v.slot; tag = first_byte v.signature }
 
 slot_there : (w : World) (frame : FrameThing) (v : Variable) (there : Option WorldFrame)
@@ -282,7 +282,7 @@ head_by w frame name None live =
     by_this None = refl
     by_this (Some this) = name_there w name this live
 
-head_there : (w : World) (frame : FrameThing) (head : Head) → IsLive w
+pub head_there : (w : World) (frame : FrameThing) (head : Head) → IsLive w
     → Finds w (head_in frame head) (shown.head_in w frame head)
 head_there w frame heads.This live =
     ap (option_map (found_as w)) (said_made (living_reply w) as_this (this_plan frame)

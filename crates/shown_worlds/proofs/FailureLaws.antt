@@ -18,7 +18,8 @@ use Rattle.machine_model.specs.Plans.{Fault, Plan, Sight, asking, both, chained,
 use Rattle.machine_model.specs.State.{State}
 use Rattle.machine_model.specs.declared.acts.Want.{Want}
 use Rattle.machine_model.specs.declared.parts.Finding.TheVariants as found
-use Rattle.shown_worlds.specs.Failures.{Fails, IsSaidBy, why_no_frames}
+use Rattle.shown_worlds.specs.FailureRows.{why_no_frames}
+use Rattle.shown_worlds.specs.Failures.{Fails, IsSaidBy}
 use Rattle.world_model.specs.Classes.{and_then}
 use Rattle.world_model.specs.Codes.{invalid_thread, not_implemented, told, vm_dead}
 use Rattle.world_model.specs.Replies.{living_reply}
@@ -81,12 +82,12 @@ error_said w sight fault question alive said h =
     said question (an_error fault.code) (record { place = fault.place; stands = h })
     ∙ ap (λ dead. if dead then an_error vm_dead else living_reply w question) alive
 
-told_error : {A : Type 0} (answer : A → Answer) (r : Result A ℕ) (code why : ℕ) → ((c : ℕ) → r ≡ Err c → c ≡ why)
+pub told_error : {A : Type 0} (answer : A → Answer) (r : Result A ℕ) (code why : ℕ) → ((c : ℕ) → r ≡ Err c → c ≡ why)
     → an_error code ≡ told answer r → code ≡ why
 told_error answer (Ok a) code why so is = cc
 told_error answer (Err c) code why so is = (let same : code ≡ c = cc in same) ∙ so c refl
 
-may_error : {A : Type 0} (alive runs : Bool) (r : Result A ℕ) → ((c : ℕ) → r ≡ Err c → c ≡ not_implemented) → (c : ℕ)
+pub may_error : {A : Type 0} (alive runs : Bool) (r : Result A ℕ) → ((c : ℕ) → r ≡ Err c → c ≡ not_implemented) → (c : ℕ)
     → and_then (λ (u : Unit {0}). r)
     (if alive then if runs then Err not_implemented else Ok tt else Err invalid_thread) ≡ Err c
     → c ≡ (if alive then not_implemented else invalid_thread)
@@ -95,12 +96,12 @@ may_error true false r so c is = so c is
 may_error false true r so c is = cc
 may_error false false r so c is = cc
 
-counted_error : (n : ℕ) (few : Bool) (c : ℕ)
+pub counted_error : (n : ℕ) (few : Bool) (c : ℕ)
     → ◌≡◌ {A = Result ℕ ℕ} (if few then Ok n else Err not_implemented) (Err c) → c ≡ not_implemented
 counted_error n true c is = cc
 counted_error n false c is = cc
 
-found_error : {A : Type 0} (o : Option A) (c : ℕ) → ok_or o not_implemented ≡ Err c → c ≡ not_implemented
+pub found_error : {A : Type 0} (o : Option A) (c : ℕ) → ok_or o not_implemented ≡ Err c → c ≡ not_implemented
 found_error None c is = cc
 found_error (Some a) c is = cc
 

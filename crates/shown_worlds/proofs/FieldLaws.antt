@@ -100,7 +100,7 @@ fields_read w n fs =
     ∙ ap (option_map (zip (map (child_of w) fs)))
     (values_there w n (fields_of (map (child_of w) fs)) ∙ all_fields w n fs)
 
-fields_page_read : (w : World) (n m start : ℕ) (fs : List FieldOf)
+pub fields_page_read : (w : World) (n m start : ℕ) (fs : List FieldOf)
     → AreRead w (read_field w n) (take m (drop start (map (child_of w) fs)))
     (fields_valued n (take m (drop start (map (child_of w) fs))))
 fields_page_read w n m start fs =
@@ -305,7 +305,7 @@ field_there w f =
 abbrev pub heard_children : (w : World) (live : IsLive w) → ClassId → List Child
 heard_children w live class = map (child_of w) (of_classes [] (classes_heard w class live).classes)
 
-named_there : (w : World) (live : IsLive w) (class : ClassId)
+pub named_there : (w : World) (live : IsLive w) (class : ClassId)
     → option_and_then (λ (l : List (ℕ × List Field)). of_world (living_reply w) (fields_named l))
     (of_world (living_reply w) (chain_fields class)) ≡ Some (heard_children w live class)
 named_there w live class =

@@ -14,4 +14,11 @@ pub mod SearchLaws
 pub mod ExpressionLaws
 pub mod WriteLaws
 pub mod FailureLaws
+pub mod PlanErrors
+pub mod ValueErrors
+pub mod ChildErrors
+pub mod ExpressionErrors
+pub mod WriteErrors
+pub mod ErrorLaws
 mod ShownExample
+mod JavaExample

@@ -96,7 +96,7 @@ named_there : (w : World) (n : ℕ)
 unfolding of_world chained
 named_there w n = text_heard w (class_of w (object n))
 
-text_there : (w : World) (n : ℕ)
+pub text_there : (w : World) (n : ℕ)
     → of_world (living_reply w) (text_plan n)
     ≡ Some (found.ExceptionText (if_null n None (option_map class_name (type_of w (object n)))))
 unfolding of_world made_with

@@ -7,5 +7,6 @@ pub mod FieldRows
 pub mod ChildRows
 pub mod ExpressionRows
 pub mod WriteRows
+pub mod FailureRows
 pub mod Laws
 pub mod Failures

@@ -1,6 +1,6 @@
 //! What each look-up shows of a target's world. Each law is the contract of a function that does nothing.
 
-ghost use Rattle.shown_worlds.specs.Failures.{Fails};
+ghost use Rattle.shown_worlds.specs.Failures.{Fails, FailsByRows, FailsJust};
 ghost use Rattle.shown_worlds.specs.Laws.{ShowsChildren, ShowsFrames, ShowsThreads, ShowsThrown};
 ghost use Rattle.shown_worlds.specs.Laws.{ShowsValues, ShowsWrites};
 
@@ -61,4 +61,21 @@ pub fn set_variable_writes_to_the_child_in_the_world()
 /// INVALID_THREAD; JDWP, ThreadReference command set, Frames and FrameCount).
 pub fn frames_fail_where_the_thread_has_ended_or_runs()
     ensures { Fails }
+{}
+
+/// The errors of the other look-ups, where besides what is known of classes is so in that world. An object that isn't
+/// there is refused with the code 20, and one of another kind with 99; a frame is refused as by `stackTrace`. `variables`
+/// meets the error of its container, or of a frame's receiver; or 99 where a child of the page has no value in its place;
+/// or that of a value that can't be shown. `evaluate` meets the error of its head, or that of the value at which its
+/// steps stop. `setVariable` meets that of the container. `exceptionInfo` meets 20 where what was thrown isn't there; the
+/// event `stopped` is told without (JDWP, Error Constants, INVALID_OBJECT; JDWP, commands GetValues of the command sets
+/// StackFrame, ObjectReference and ArrayReference; JDWP, StackFrame command set, ThisObject).
+pub fn look_ups_fail_by_what_is_not_there()
+    ensures { FailsByRows }
+{}
+
+/// A page of children has such errors just where `variables` shows none of it: by its container, by a child without a
+/// value, or by a value that isn't shown (DAP specification, Variables request).
+pub fn children_have_errors_just_where_none_are_shown()
+    ensures { FailsJust }
 {}
