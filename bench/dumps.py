@@ -3,9 +3,10 @@
 
 The Java program is examples/Stacks.java: 200, 1,000 and 2,000 threads that wait, each in ten frames of its own. The
 program, and bench/Dump.java, which uses JDI, attach to it in turn, five times each. Both have to read the same: all
-threads, their frames, and the variables of each with their values, but for the ids of objects. Printed are the
-milliseconds of each run, the median, and the ratio. Those of the program are of its whole process, which prints the
-text to a pipe; those of JDI are from the attach to the end, the second time in one process, so that it is warm.
+threads, their frames, and the variables of each with their values, but for the ids of objects, and for when a thread
+of Java's own began to wait. Printed are the milliseconds of each run, the median, and the ratio. Those of the program
+are of its whole process, which prints the text to a pipe; those of JDI are from the attach to the end, the second
+time in one process, so that it is warm.
 
 How long the Java program stands still is at most the time of the run. `uptime` tells whether the machine has
 processors free: the load is printed first.
@@ -29,7 +30,7 @@ from sessions import has_to_be
 SOURCE = os.path.join(EXAMPLES, "Stacks.java")
 READER = os.path.join(TOP, "bench", "Dump.java")
 TAKEN = re.compile(r"milliseconds [\d.]+ ([\d.]+)\n")
-ID = re.compile(rb"@[0-9a-f]+$", re.MULTILINE)
+PASSING = re.compile(rb"(?<=@)[0-9a-f]+$|(?<=    start: long = )\d+$", re.MULTILINE)
 THREADS, FRAMES, RUNS = (200, 1000, 2000), 10, 5
 LONGEST = 600
 
@@ -61,7 +62,7 @@ def compare(program, classes, threads):
     with JavaProgram(classes, "Stacks", [str(threads), str(FRAMES)], longest=LONGEST) as java:
         java.wait_until_up()
         runs = [(by_jdi(java), by_program(program, java)) for _ in range(RUNS)]
-    has_to_be("how many texts were read", len({ID.sub(b"@", shown) for run in runs for shown, _ in run}), 1)
+    has_to_be("how many texts were read", len({PASSING.sub(b"", shown) for run in runs for shown, _ in run}), 1)
     lines = runs[0][1][0].split(b"\n")
     count = {name: sum(line.startswith(front) for line in lines)
              for name, front in (("threads", b"thread "), ("frames", b"  #"), ("variables", b"    "))}
