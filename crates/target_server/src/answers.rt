@@ -1,5 +1,5 @@
 //! Which answers have a spelling (JDWP, Detailed Command Information).
-ghost use Rattle.std.specs.Prelude.{◌≡◌, ◌<◌, ◌^◌, IsTrue, Some};
+ghost use Rattle.std.specs.Prelude.{◌≡◌, ◌<◌, ◌^◌, ◌↔◌, IsTrue, Some, MatchResult};
 ghost use Rattle.std.specs.List.{AllByRecursion};
 ghost use Rattle.jdwp_values.specs.declared.limit.Limit.TheVariants.{Any};
 ghost use Rattle.jdwp_values.specs.Tags.{byte_of_tag};
@@ -11,6 +11,7 @@ use crate::fits::{
 };
 use jdwp_commands::{Answer, ClassStatus, Frame, LoadedClass, Region};
 use jdwp_values::{IdSizes, Tag, Value};
+use wire_core::NoMemory;
 
 impl Fitting for ClassStatus {
     fn fits(&self, sizes: IdSizes) -> bool {
@@ -32,7 +33,7 @@ impl Fitting for Frame {
 
 // Whether values of an array have this tag: all but nothing's.
 fn tag_fits(tag: Tag) -> bool
-    ensures { IsTrue result → (region_tag_of (byte_of_tag tag) ≡ Some tag) }
+    ensures { IsTrue result ↔ (region_tag_of (byte_of_tag tag) ≡ Some tag) }
 {
     match tag {
         Tag::Void => false,
@@ -42,7 +43,7 @@ fn tag_fits(tag: Tag) -> bool
 
 // Whether a value has a spelling in a region of this tag.
 fn element_fits(tag: Tag, value: Value, sizes: IdSizes) -> bool
-    ensures { IsTrue result → FitsElement tag sizes value }
+    ensures { IsTrue result ↔ FitsElement tag sizes value }
 {
     if tag.is_reference() {
         reference_fits(value, sizes)
@@ -53,7 +54,7 @@ fn element_fits(tag: Tag, value: Value, sizes: IdSizes) -> bool
 
 // Whether each of some values has one.
 fn elements_fit(tag: Tag, values: &[Value], sizes: IdSizes) -> bool
-    ensures { IsTrue result → AllByRecursion (FitsElement tag sizes) values.now }
+    ensures { IsTrue result ↔ AllByRecursion (FitsElement tag sizes) values.now }
 {
     for value in values {
         if !element_fits(tag, *value, sizes) {
@@ -65,7 +66,7 @@ fn elements_fit(tag: Tag, values: &[Value], sizes: IdSizes) -> bool
 
 // Whether a region has a spelling.
 fn region_fits(region: &Region, sizes: IdSizes) -> bool
-    ensures { IsTrue result → FitsRegion Any sizes region.now }
+    ensures { IsTrue result ↔ FitsRegion Any sizes region.now }
 {
     tag_fits(region.tag)
         && length_fits(region.values.len())
@@ -74,14 +75,14 @@ fn region_fits(region: &Region, sizes: IdSizes) -> bool
 
 // Whether a count has a spelling.
 fn count_fits(count: u32) -> bool
-    ensures { IsTrue result → (count < 2 ^ 31) }
+    ensures { IsTrue result ↔ (count < 2 ^ 31) }
 {
     count < 1 << 31
 }
 
-/// Whether an answer has a spelling.
-pub(crate) fn answer_fits(answer: &Answer, sizes: IdSizes) -> bool
-    ensures { IsTrue result → FitsAnswer sizes answer.now }
+// Whether an answer has a spelling.
+fn answer_fits(answer: &Answer, sizes: IdSizes) -> bool
+    ensures { IsTrue result ↔ FitsAnswer sizes answer.now }
 {
     match answer {
         Answer::ClassesBySignature(classes) => list_fits(classes.as_slice(), sizes),
@@ -106,4 +107,14 @@ pub(crate) fn answer_fits(answer: &Answer, sizes: IdSizes) -> bool
         Answer::ThisObject(object) => reference_fits(*object, sizes),
         _ => true,
     }
+}
+
+/// An answer is spelled. It takes no memory: `NoMemory` comes just where it has no spelling.
+pub(crate) fn fit_answer(answer: &Answer, sizes: IdSizes) -> Result<(), NoMemory>
+    ensures { MatchResult result (λ _. FitsAnswer sizes answer.now) (λ _. ¬ FitsAnswer sizes answer.now) }
+{
+    if !answer_fits(answer, sizes) {
+        return Err(NoMemory);
+    }
+    Ok(())
 }

@@ -1,6 +1,6 @@
 //! Which answers and composites have a spelling: their ids fit the sizes, and their texts and lists have room for their
 //! lengths (JDWP, Detailed Command Information, common data types).
-ghost use Rattle.std.specs.Prelude.{◌<◌, ◌^◌, IsTrue, length};
+ghost use Rattle.std.specs.Prelude.{◌<◌, ◌^◌, ◌↔◌, IsTrue, length, MatchResult};
 ghost use Rattle.std.specs.List.{AllByRecursion};
 ghost use Rattle.jdwp_values.specs.Rows.{FitsList};
 ghost use Rattle.jdwp_values.specs.Parts.{reference};
@@ -11,18 +11,18 @@ use jdwp_events::{Composite, Event};
 use jdwp_values::{
     ClassId, Field, IdSizes, Line, Location, Method, Row, ThreadId, Value, Variable,
 };
-use wire_core::Blob;
+use wire_core::{Blob, NoMemory};
 
 /// What lists are made of, and whether one has a spelling.
 pub(crate) trait Fitting: Row {
     /// Whether it has a spelling.
     fn fits(&self, sizes: IdSizes) -> bool
-        ensures { IsTrue result → Self.Fits sizes self.now };
+        ensures { IsTrue result ↔ Self.Fits sizes self.now };
 }
 
 /// Whether an id takes so many bytes.
 pub(crate) fn id_fits(size: u8, id: u64) -> bool
-    ensures { IsTrue result → (id < 256 ^ size) }
+    ensures { IsTrue result ↔ (id < 256 ^ size) }
 {
     match 256u64.checked_pow(u32::from(size)) {
         Some(end) => id < end,
@@ -32,14 +32,14 @@ pub(crate) fn id_fits(size: u8, id: u64) -> bool
 
 /// Whether an int has room for a length (JDWP, Detailed Command Information, common data types, string).
 pub(crate) fn length_fits(length: usize) -> bool
-    ensures { IsTrue result → (length < 2 ^ 31) }
+    ensures { IsTrue result ↔ (length < 2 ^ 31) }
 {
     length < 1 << 31
 }
 
 /// Whether a value has a spelling.
 pub(crate) fn value_fits(value: Value, sizes: IdSizes) -> bool
-    ensures { IsTrue result → FitsValue sizes value }
+    ensures { IsTrue result ↔ FitsValue sizes value }
 {
     match value {
         Value::Object(id) => id_fits(sizes.object, id.0),
@@ -55,14 +55,14 @@ pub(crate) fn value_fits(value: Value, sizes: IdSizes) -> bool
 
 /// Whether a value has a spelling where a reference stands.
 pub(crate) fn reference_fits(value: Value, sizes: IdSizes) -> bool
-    ensures { IsTrue result → FitsPart sizes reference value }
+    ensures { IsTrue result ↔ FitsPart sizes reference value }
 {
     value.tag().is_reference() && value_fits(value, sizes)
 }
 
 /// Whether a place in code has a spelling.
 pub(crate) fn location_fits(at: Location, sizes: IdSizes) -> bool
-    ensures { IsTrue result → FitsLocation sizes at }
+    ensures { IsTrue result ↔ FitsLocation sizes at }
 {
     id_fits(sizes.class, at.class.0) && id_fits(sizes.method, at.method.0)
 }
@@ -109,7 +109,7 @@ impl Fitting for Variable {
 
 // Whether each of some has a spelling.
 fn each_fits<T: Fitting>(items: &[T], sizes: IdSizes) -> bool
-    ensures { IsTrue result → AllByRecursion (T.Fits sizes) items.now }
+    ensures { IsTrue result ↔ AllByRecursion (T.Fits sizes) items.now }
 {
     for item in items {
         if !item.fits(sizes) {
@@ -121,21 +121,21 @@ fn each_fits<T: Fitting>(items: &[T], sizes: IdSizes) -> bool
 
 /// Whether a list has a spelling.
 pub(crate) fn list_fits<T: Fitting>(items: &[T], sizes: IdSizes) -> bool
-    ensures { IsTrue result → FitsList (T.Fits sizes) items.now }
+    ensures { IsTrue result ↔ FitsList (T.Fits sizes) items.now }
 {
     length_fits(items.len()) && each_fits(items, sizes)
 }
 
 // Whether what an event says of a class has a spelling.
 fn class_fits(class: ClassId, signature: &Blob, sizes: IdSizes) -> bool
-    ensures { IsTrue result → ((class.0 < 256 ^ sizes.class) × (length signature.now < 2 ^ 31)) }
+    ensures { IsTrue result ↔ ((class.0 < 256 ^ sizes.class) × (length signature.now < 2 ^ 31)) }
 {
     id_fits(sizes.class, class.0) && length_fits(signature.len())
 }
 
 // Whether what an event says of an exception has a spelling.
 fn exception_fits(at: Location, exception: Value, catch: Location, sizes: IdSizes) -> bool
-    ensures { IsTrue result → (FitsLocation sizes at × FitsPart sizes reference exception × FitsLocation sizes catch) }
+    ensures { IsTrue result ↔ (FitsLocation sizes at × FitsPart sizes reference exception × FitsLocation sizes catch) }
 {
     location_fits(at, sizes) && reference_fits(exception, sizes) && location_fits(catch, sizes)
 }
@@ -172,9 +172,19 @@ impl Fitting for Event {
     }
 }
 
-/// Whether a composite has a spelling.
-pub(crate) fn composite_fits(composite: &Composite, sizes: IdSizes) -> bool
-    ensures { IsTrue result → FitsComposite sizes composite.now }
+// Whether a composite has a spelling.
+fn composite_fits(composite: &Composite, sizes: IdSizes) -> bool
+    ensures { IsTrue result ↔ FitsComposite sizes composite.now }
 {
     list_fits(composite.events.as_slice(), sizes)
+}
+
+/// A composite is spelled. It takes no memory: `NoMemory` comes just where it has no spelling.
+pub(crate) fn fit_composite(composite: &Composite, sizes: IdSizes) -> Result<(), NoMemory>
+    ensures { MatchResult result (λ _. FitsComposite sizes composite.now) (λ _. ¬ FitsComposite sizes composite.now) }
+{
+    if !composite_fits(composite, sizes) {
+        return Err(NoMemory);
+    }
+    Ok(())
 }

@@ -10,14 +10,12 @@ ghost use Rattle.jdwp_packets.specs.Taking.{Shows};
 ghost use Rattle.target_server.specs.Hearing.{command_or, command_of, next_in, heard_end, IfSaid, IsThis};
 
 use crate::commands::Command;
+use crate::limits::fit_body;
 use crate::trouble::TargetTrouble;
 use jdwp_commands::{BodyFault, read_command};
 use jdwp_packets::{Packet, PacketCutter};
 use jdwp_values::IdSizes;
 use std::alloc::Global;
-
-// A body of so many bytes isn't read; no packet has one.
-const TOO_LONG: usize = 1 << 32;
 
 // A body that is no command's refuses its packet.
 fn bad_body(fault: BodyFault, at: u64) -> TargetTrouble
@@ -61,9 +59,7 @@ fn read(
 ) -> Result<Command, TargetTrouble>
     ensures { IsThis (command_or id at (command_at sizes set number body.now)) result }
 {
-    if body.len() >= TOO_LONG {
-        return Err(TargetTrouble::NoMemory);
-    }
+    fit_body(body)?;
     match read_command(alloc, sizes, set, number, body) {
         Ok(asked) => Ok(Command { id, asked }),
         Err(fault) => Err(bad_body(fault, at)),

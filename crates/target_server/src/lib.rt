@@ -6,6 +6,7 @@ mod commands;
 mod fits;
 mod hearing;
 mod laws;
+mod limits;
 mod link;
 mod outgoing;
 mod packets;

@@ -1,6 +1,6 @@
 //! A world and what lies between it and its debugger.
 ghost use Rattle.std.specs.Prelude.{◌≡◌, [], ◌∷◌, ◌++◌, true, false, Ok, None, slice_get, length, take, drop};
-ghost use Rattle.std.specs.Prelude.{IfOk, OnOk, OnErr, Some};
+ghost use Rattle.std.specs.Prelude.{◌^◌, IfOk, OnOk, OnErr, MatchResult, Some};
 ghost use Rattle.world_model.specs.Moving.{count_behind};
 ghost use Rattle.target_server.specs.Flights.{count_out, CanReply};
 ghost use Rattle.target_server.specs.Joints.{joint_of, start_of, Greets, received, answered, done};
@@ -15,7 +15,7 @@ use jdwp_values::{IdSizes, ThreadId};
 use std::alloc::Global;
 use std::marker::Model;
 use wire_core::{List, NoMemory};
-use world_model::{Move, MoveTrouble, World};
+use world_model::{Move, MoveTrouble, World, once_more};
 
 /// A world, its program, and what lies between it and its debugger.
 #[derive(Debug, Drop)]
@@ -81,13 +81,15 @@ fn end_of(alloc: Global, before: bool, now: bool) -> Result<Option<Composite>, N
     Ok(Some(of_one(alloc, Policy::NoThread, event)?))
 }
 
-// How often all threads are suspended behind these events.
+// How often all threads are suspended behind these events. It takes no memory: `NoMemory` comes just where that would
+// be 2^64 times.
 fn suspended(count: u64, told: &Option<Composite>) -> Result<u64, NoMemory>
-    ensures { IfOk result (λ now. now ≡ count_behind count told.now) }
+    ensures { MatchResult result (λ now. now ≡ count_behind count told.now)
+        (λ _. count_behind count told.now ≡ 2 ^ 64) }
 {
     match told {
         Some(composite) => if composite.policy.byte() == Policy::All.byte() {
-            count.checked_add(1).ok_or(NoMemory)
+            once_more(count)
         } else {
             Ok(count)
         },

@@ -3,6 +3,7 @@ ghost use Rattle.std.specs.Prelude.{◌≡◌, ◌++◌, length, take, drop, OnO
 ghost use Rattle.target_server.specs.Flights.{nothing_sent, sent, shaken, released, gone, replied, CanReply, told};
 ghost use Rattle.target_server.specs.Flights.{count_out, id_behind, told_if, CanTell, CanTellIf};
 
+use crate::limits::end_behind;
 use crate::packets::{events_packet, reply_packet};
 use jdwp_commands::Replied;
 use jdwp_events::Composite;
@@ -45,9 +46,7 @@ fn append(stream: &mut StreamBuffer, bytes: &[u8]) -> Result<(), NoMemory>
     ensures err { OnErr result (stream.new ≡ stream.old) }
 {
     let end = stream.at() + stream.pending().len() as u64;
-    if bytes.len() as u64 >= (1 << 63) - end {
-        return Err(NoMemory);
-    }
+    end_behind(end, bytes.len())?;
     stream.feed(bytes)
 }
 

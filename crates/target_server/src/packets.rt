@@ -5,17 +5,15 @@ ghost use Rattle.jdwp_events.specs.Composites.{FitsComposite, spell_composite};
 ghost use Rattle.jdwp_packets.specs.Packets.{packet_bytes};
 ghost use Rattle.target_server.specs.Flights.{packet_of_reply, packet_of_events, CanReply, CanTell, longest};
 
-use crate::answers::answer_fits;
-use crate::fits::composite_fits;
+use crate::answers::fit_answer;
+use crate::fits::fit_composite;
+use crate::limits::fit_packet;
 use jdwp_commands::{Answer, Replied, write_answer};
 use jdwp_events::{Composite, write_composite};
 use jdwp_packets::{write_command, write_reply};
 use jdwp_values::IdSizes;
 use std::alloc::Global;
 use wire_core::{Blob, NoMemory};
-
-// The longest data of a packet behind its header.
-const LONGEST: usize = 67_108_853;
 
 // The numbers of the command that tells events (JDWP, Event command set, Composite).
 const EVENT_SET: u8 = 64;
@@ -28,13 +26,9 @@ fn answer_body(alloc: Global, sizes: IdSizes, answer: &Answer) -> Result<Blob, N
     ensures fits { OnOk result (FitsAnswer sizes answer.now) }
     ensures room { IfOk result (λ body. length body ≤ longest) }
 {
-    if !answer_fits(answer, sizes) {
-        return Err(NoMemory);
-    }
+    fit_answer(answer, sizes)?;
     let body = write_answer(alloc, sizes, answer)?;
-    if body.len() > LONGEST {
-        return Err(NoMemory);
-    }
+    fit_packet(body.as_slice())?;
     Ok(body)
 }
 
@@ -64,13 +58,9 @@ fn events_body(alloc: Global, sizes: IdSizes, composite: &Composite) -> Result<B
     ensures fits { OnOk result (FitsComposite sizes composite.now) }
     ensures room { IfOk result (λ body. length body ≤ longest) }
 {
-    if !composite_fits(composite, sizes) {
-        return Err(NoMemory);
-    }
+    fit_composite(composite, sizes)?;
     let body = write_composite(alloc, sizes, composite)?;
-    if body.len() > LONGEST {
-        return Err(NoMemory);
-    }
+    fit_packet(body.as_slice())?;
     Ok(body)
 }
 

@@ -9,6 +9,7 @@ ghost use Rattle.target_server.specs.Hearing.{TakesUpTo, Hears, HearsUpTo, Feeds
 ghost use Rattle.target_server.specs.Joints.{joint_of, Serves, next_move, Advances, left};
 
 use crate::hearing::next_command;
+use crate::limits::end_behind;
 use crate::link::Link;
 use crate::trouble::TargetTrouble;
 use jdwp_events::Policy;
@@ -138,10 +139,7 @@ impl Target {
     fn add(&mut self, piece: &[u8]) -> Result<(), NoMemory>
         ensures { OnOk result (self.new ≡ fed self.old piece.now) }
     {
-        if piece.len() as u64 >= (1 << 63) - self.bytes_fed {
-            return Err(NoMemory);
-        }
-        self.bytes_fed += piece.len() as u64;
+        self.bytes_fed = end_behind(self.bytes_fed, piece.len())?;
         self.cutter.feed(piece)
     }
 

@@ -1,5 +1,5 @@
 //! What a command that changes a target makes of it.
-ghost use Rattle.std.specs.Prelude.{◌≡◌, Some, OnOk, OnErr, IfOk, nat_abs};
+ghost use Rattle.std.specs.Prelude.{◌≡◌, Some, None, OnOk, OnErr, IfOk, MatchResult, nat_abs};
 ghost use Rattle.jdwp_commands.specs.declared.answer.Answer.TheVariants as answers;
 ghost use Rattle.world_model.specs.Effects.{suspended, resumed, disposed, exited, cleared, with_request, requested};
 ghost use Rattle.world_model.specs.Effects.{with_put};
@@ -10,7 +10,8 @@ use crate::changes::{
     arrays_with, frames_with, modifier_copies, requests_left, steps_left, steps_with,
 };
 use crate::codes::VM_DEAD;
-use crate::requests::{allowed, behind_id, free_id};
+use crate::limits::{next_id, once_more};
+use crate::requests::{allowed, behind_id};
 use crate::rows::Installed;
 use crate::steps::start_of;
 use crate::storing::{element_stored, field_stored, slot_stored};
@@ -21,18 +22,14 @@ use jdwp_values::{FieldId, FrameId, ObjectId, ThreadId, Value};
 use std::alloc::Global;
 use wire_core::{List, NoMemory};
 
-// All threads are suspended once more.
+// All threads are suspended once more. It takes no memory: `NoMemory` comes just where that would be 2^64 times.
 fn suspend(world: &mut World) -> Result<Replied, NoMemory>
-    ensures ok { IfOk result (λ replied. suspended world.old ≡ Some (world.new, replied)) }
+    ensures count { MatchResult result (λ replied. suspended world.old ≡ Some (world.new, replied))
+        (λ _. suspended world.old ≡ None) }
     ensures err { OnErr result (world.new ≡ world.old) }
 {
-    match world.count.checked_add(1) {
-        Some(count) => {
-            world.count = count;
-            Ok(Replied::Answer(Answer::Suspend))
-        }
-        None => Err(NoMemory),
-    }
+    world.count = once_more(world.count)?;
+    Ok(Replied::Answer(Answer::Suspend))
 }
 
 // And once less, where they were.
@@ -183,9 +180,7 @@ fn set(
     if let Err(code) = allowed(world, kind, policy, modifiers) {
         return Ok(Replied::Error(code));
     }
-    let Some(id) = free_id(world) else {
-        return Err(NoMemory);
-    };
+    let id = next_id(world)?;
     install(alloc, world, kind, policy, modifiers, id)?;
     Ok(Replied::Answer(Answer::Set(id)))
 }

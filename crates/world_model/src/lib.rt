@@ -11,6 +11,7 @@ mod happening;
 mod hits;
 mod kinds;
 mod laws;
+mod limits;
 mod members;
 mod move_laws;
 mod moves;
@@ -29,6 +30,7 @@ pub use laws::{
     a_target_that_has_ended_says_so, the_program_stays, values_stay_unless_one_is_put,
     what_is_refused_changes_nothing,
 };
+pub use limits::once_more;
 pub use move_laws::{
     a_move_suspends_as_its_events_say, a_sound_world_stays_sound_as_it_moves,
     a_suspended_target_makes_no_move, a_watched_class_is_prepared_with_its_event,

@@ -5,9 +5,9 @@ use Rattle.target_server.proofs.target.Target.add.Goals as goal
 pub invariant_of-self : goal.invariant_of-self
 invariant_of-self c =
     let few = c.self.invariant.0 in
-    let less = c.self.invariant.1 in
-    let room = c.if-piece-self.false in (
-      added_end c.feed.result c.self.inside.cutter c.feed.new.self c.args.piece.now c.self.inside.bytes_fed few
-          c.feed.ensures.ok c.feed.ensures.err,
-      omega (arith, less, room),
+    let end = c.in_ok-self-inside.ensures in
+    let added = added_end c.feed.result c.self.inside.cutter c.feed.new.self c.args.piece.now c.self.inside.bytes_fed
+    few c.feed.ensures.ok c.feed.ensures.err in (
+      omega (arith, end.0, added),
+      omega (arith, end.0, end.1),
     )
