@@ -6,7 +6,7 @@ use Rattle.std.specs.List.{AllByRecursion as All}
 use Rattle.std.specs.Prelude.{replicate}
 use Rattle.clean_sessions.specs.Client.{AreMessages}
 use Rattle.clean_sessions.specs.Endings.{EndsWell}
-use Rattle.clean_sessions.specs.Needed.{AreNeeded, IsNeeded}
+use Rattle.clean_sessions.specs.Needed.{AreNeeded, HoldAtFirst, IsNeeded}
 use Rattle.clean_sessions.specs.Premises.{ClientSpeaks, ClientStays, Does, FewWait, HasTurnsLeft, IsPatient, LinkHolds}
 use Rattle.clean_sessions.specs.Premises.{Premise, RefusesLittle, TargetSpeaks}
 use Rattle.clean_sessions.specs.Target.{IsWellFormed}
@@ -406,3 +406,15 @@ answers_badly = record {
 
 pub are_needed : AreNeeded
 are_needed = (speaks_badly, (leaves, (fails, (answers_badly, (idles, (spends, tt))))))
+
+pub hold_at_first : HoldAtFirst
+hold_at_first limits turns quiet Premise.client_speaks = nothing_said [] refl
+hold_at_first limits turns quiet Premise.client_stays = has_none is_no_end client_end [] tt refl
+hold_at_first limits turns quiet Premise.links_hold = λ side. has_none is_no_failure (Failed side) [] tt refl
+hold_at_first limits turns quiet Premise.target_speaks = silent [] refl
+hold_at_first limits turns quiet Premise.kept_read = tt
+hold_at_first limits turns quiet Premise.none_suspends_one = tt
+hold_at_first limits turns quiet Premise.refuses_little = little []
+hold_at_first limits turns quiet Premise.few_wait = few limits
+hold_at_first limits turns quiet Premise.is_patient = few_waits limits [] quiet
+hold_at_first limits turns quiet Premise.has_turns_left = turns
