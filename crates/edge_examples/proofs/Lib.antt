@@ -1,5 +1,7 @@
 mod ClassExamples
 mod ListExamples
+mod LookupEdges
 mod StaticLaws
 mod StopEdges
+mod TableEdges
 mod Words

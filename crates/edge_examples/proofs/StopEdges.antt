@@ -14,7 +14,7 @@ use Rattle.jdwp_values.specs.declared.tag.TypeTag.TheVariants as tags
 use Rattle.jdwp_values.specs.declared.value.Value.TheVariants as values
 use Rattle.machine_model.specs.Breakpoints.{key_of}
 use Rattle.machine_model.specs.Due.{due, load_of, newly_lacked, wanted}
-use Rattle.machine_model.specs.Names.{ExceptionInfo, Request, SetExceptionBreakpoints, SetFunctionBreakpoints}
+use Rattle.machine_model.specs.Names.{ExceptionInfo, Request, SetExceptionBreakpoints, SetFunctionBreakpoints, ThreadId}
 use Rattle.machine_model.specs.Names.{an_answer, an_error}
 use Rattle.machine_model.specs.declared.acts.TargetCommand.{TargetCommand}
 use Rattle.machine_model.specs.declared.acts.Effect.TheVariants.{Clear, Does, Set}
@@ -116,3 +116,17 @@ tells_first : said_on 8 (heard (drive 16 (happens (thrown 77 ∷ thrown 78 ∷ h
 unfolding due wanted load_of newly_lacked next_change wished need chained made_with each key_of chars encode lossy
     lossy_after is_utf8
 tells_first = refl
+
+-- It is so behind a second hit, whose suspension is undone: with that Resume the stop isn't over.
+abbrev two : ThreadId
+two = record { 0 = 2 }
+
+abbrev hit_again : Machine
+hit_again = answered (drive 16 (happens (happened.Breakpoint 4 two (at 2) ∷ [])
+    (drive 16 (happens (thrown 77 ∷ happened.Breakpoint 4 one (at 2) ∷ []) both_set))))
+    (an_effect (Does (Resume of_composite))) (an_answer answers.Resume)
+
+tells_still : said_on 8 (heard (drive 8 hit_again) asks_info) ≡ asks (questions.ObjectType (record { 0 = 77 })) ∷ []
+unfolding due wanted load_of newly_lacked next_change wished need chained made_with each key_of chars encode lossy
+    lossy_after is_utf8
+tells_still = refl
