@@ -42,6 +42,7 @@ ROWS = [
       (0.8, MODEL, "shown_worlds", "what a world shows"), (0.8, MODEL, "edge_examples", "edges, by example"),
       (0.8, MODEL, "joint_examples", "its choices")],
     [(1, PROVED, "talk_rows", "the parts of a request"), (0.9, PROVED, "talk_events", "stops and news"),
+     (0.8, PROVED, "hit_values", "hits, judged"),
      (1.1, PROVED, "message_bodies", "bodies judged and spelled"), (1, MODEL, "session_laws", "laws of sessions"),
      (1, MODEL, "joint_model", "beside an obeying target"), (0.9, MODEL, "dump_requests", "a dump, read"),
      (0.9, MODEL, "composite_laws", "each is dealt with")],

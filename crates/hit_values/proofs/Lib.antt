@@ -1,0 +1,3 @@
+pub mod CaughtNeeds
+pub mod EachPieces
+pub mod Firing
