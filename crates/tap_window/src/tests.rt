@@ -55,9 +55,7 @@ fn sixteen_questions_have_no_reply_at_most(rt: HostRuntime) -> Result<(), Fail> 
 
 #[test]
 fn behind_the_last_id_the_first_comes_again(rt: HostRuntime) -> Result<(), Fail> {
-    let mut window = Window::new(rt.alloc());
-    window.send(DEBUGGERS)?;
-    window.go_on_behind(4294967294);
+    let mut window = Window::with_first(rt.alloc(), DEBUGGERS, 4294967294)?;
     assert_eq!(rt; window.next_id(), 4294967295);
     assert!(rt; !window.is_taken());
     window.send(Owner::Sizes)?;

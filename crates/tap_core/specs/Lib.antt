@@ -1,0 +1,4 @@
+pub mod Cores
+pub mod Names
+pub mod Saying
+pub mod Taking
