@@ -20,6 +20,7 @@ FIRST = {
     "legal_logs": "Of legal logs, and of verdicts on others",
     "machine_laws": "Of every run of the machine, and of every look-up",
     "composite_laws": "Of composites that suspend the whole target",
+    "asking_laws": "Of why a question is sent",
     "lacking_laws": "Of what look-ups lack as replies come",
     "joint_model": "Of the machine beside a target that obeys JDWP",
     "joint_facts": "Of what is known of classes beside such a target",
