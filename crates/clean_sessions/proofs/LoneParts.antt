@@ -5,10 +5,11 @@ use Rattle.std.proofs.Common.{◌∙◌, arith}
 use Rattle.clean_sessions.specs.Premises.{suspends_one}
 use Rattle.jdwp_events.specs.declared.kind.Policy.{Policy}
 use Rattle.machine_model.specs.Composites.{composite_parts, has_death}
-use Rattle.machine_model.specs.Due.{Load, Picked, Way, asked_first, asked_next, busy, clear, due, due_by, gated, guarded}
-use Rattle.machine_model.specs.Due.{hand_due, is_full, lacking_more, lets, load_of, looked, next_item, pick, queued}
-use Rattle.machine_model.specs.Due.{queued_next, responded, updated, waiting, wanted, wanted_in, way}
-use Rattle.machine_model.specs.Due.Way.{passes as passes_way, greets as greets_way, holds as holds_way, asks as asks_way}
+use Rattle.machine_model.specs.Due.{Load, Picked, Way, asked_first, asked_next, busy, clear, due, due_by, gated}
+use Rattle.machine_model.specs.Due.{guarded, hand_due, is_full, lacking_more, lets, load_of, looked, next_item, pick}
+use Rattle.machine_model.specs.Due.{queued, queued_next, responded, updated, waiting, wanted, wanted_in, way}
+use Rattle.machine_model.specs.Due.Way.{passes as passes_way, greets as greets_way, holds as holds_way}
+use Rattle.machine_model.specs.Due.Way.{asks as asks_way}
 use Rattle.machine_model.specs.Lookups.{finished, found_for}
 use Rattle.machine_model.specs.Plans.{Need, Result, fails, has, lacks}
 use Rattle.machine_model.specs.Requests.{effect_due}
@@ -18,8 +19,8 @@ use Rattle.dap_messages.specs.declared.told.Failure.{Failure}
 use Rattle.machine_steps.proofs.PartTests.{passes}
 use Rattle.machine_steps.proofs.Tables.{decided_alike, judged_alike, told_alike}
 use Rattle.session_model.specs.Names.{a_composite, a_raw, a_request, Act, Choice, Command, Decides, Effect, Finding}
-use Rattle.session_model.specs.Names.{Finish, finish_done, finish_one_thread, Item, Judges, Lookup, Outcome, Part, Phase}
-use Rattle.session_model.specs.Names.{target_end, TellsNews, Want}
+use Rattle.session_model.specs.Names.{Finish, finish_done, finish_one_thread, Item, Judges, Lookup, Outcome, Part}
+use Rattle.session_model.specs.Names.{Phase, target_end, TellsNews, Want}
 
 -- Where it stands -----------------------------------------------------------------------------------------------------
 

@@ -1,5 +1,5 @@
 -- Sessions in which one thing alone goes wrong, checked by computation.
-use Rattle.std.proofs.Common.{◌≡◌, ◌+◌, ◌<◌, ◌≤◌, ℕ, inr, Bool, true, false, List, [], ◌∷◌, ◌++◌, None, Option, Some}
+use Rattle.std.proofs.Common.{◌≡◌, ◌<◌, ◌≤◌, ℕ, inr, Bool, true, false, List, [], ◌∷◌, ◌++◌, None, Option, Some}
 use Rattle.std.proofs.Common.{length, map, refl, sym, ap, subst, ◌∙◌, arith}
 use Rattle.std.proofs.lemmas.List.{length-append, length-replicate}
 use Rattle.std.specs.List.{AllByRecursion as All}
@@ -26,13 +26,13 @@ use Rattle.pending_table.specs.Windows.{pending_under}
 use Rattle.session_causes.specs.Outside.{HasEntry, client_end}
 use Rattle.session_laws.specs.Bytes.{came_from}
 use Rattle.session_laws.specs.Replies.{ArePackets, under_id}
-use Rattle.session_laws.specs.Turns.{comes}
 use Rattle.session_model.specs.Causes.{Cause, IsWaiting, Listens}
 use Rattle.session_model.specs.Faults.{IsClientFault, IsTargetFault}
 use Rattle.session_model.specs.LastWords.{AreSpoken}
 use Rattle.session_model.specs.Names.{an_event, BadClient, BadTarget, Client, ClientLink, Done, Ending, Entry, Failed}
-use Rattle.session_model.specs.Names.{Idle, In, Left, Limits, misframed, mispacked, NoMemory, Out, Quiet, Shut, Side, Spent, Target}
-use Rattle.session_model.specs.Names.{TargetCommand, Told}
+use Rattle.session_model.specs.Names.{Idle, In, Left, Limits, misframed, mispacked, NoMemory, Out, Quiet, Shut, Side}
+use Rattle.session_model.specs.Names.{Spent, Target}
+use Rattle.session_model.specs.Names.{Told}
 use Rattle.session_model.specs.Saying.{told_bytes}
 use Rattle.session_model.specs.Session.{Comes, Going, IsLeft}
 use Rattle.session_model.specs.States.{SessionState, no_bytes}

@@ -18,7 +18,7 @@ use Rattle.machine_model.specs.Replying.{SizesFor, has_good_sizes, is_tolerated,
 use Rattle.machine_model.specs.Runs.{Message, Run}
 use Rattle.machine_model.specs.State.{Machine}
 use Rattle.pending_table.specs.Windows.{pending_under}
-use Rattle.session_laws.specs.Replies.{AreReadAlike, AreReplied, kept_by, raw_in, read_by, under_id}
+use Rattle.session_laws.specs.Replies.{AreReadAlike, AreReplied, raw_in, read_by, under_id}
 use Rattle.session_model.specs.Faults.{HasAnswer, HasReply, IsKeptFault, IsTargetFault, RefusesComposite}
 use Rattle.session_model.specs.Faults.{numbers_in}
 use Rattle.session_model.specs.Names.{a_raw, Answer, Entry, Replied, TargetCommand, TargetFault}
@@ -78,8 +78,8 @@ answer_so {messages = messages} {s} {command} h alike run speaks a =
     let both : Some (wire r.command) ≡ Some (wire command) =
     sym r.pending ∙ pends h a.reply.id a.reply.pending in
     let same : wire r.command ≡ wire command = cc in
-    let (answer, is, fits) =
-    reads_so s a.reply.id alike (a.reply.pending ∙ ap (λ asked. Some asked) (sym same)) refl says good a.used a.serves in
+    let under = a.reply.pending ∙ ap (λ asked. Some asked) (sym same) in
+    let (answer, is, fits) = reads_so s a.reply.id alike under refl says good a.used a.serves in
     (answer, sym a.reads ∙ ap (λ asked. answer_at a.used asked a.body) (sym same) ∙ is, fits)
 
 five_good : (a b c d e : Bool) (f m o s r : ℕ) → is_no_size f ≡ a → is_no_size m ≡ b → is_no_size o ≡ c
@@ -104,7 +104,8 @@ target_well h alike run speaks (IsTargetFault.bad_command front none) =
     let no : true ≡ false = sym is ∙ none in cc
 target_well h alike run speaks (IsTargetFault.bad_composite front is bad) =
     no_refusal run (speaks h.unreplied _ (stands_next h front)).1 bad
-target_well {messages = messages} h alike run speaks (IsTargetFault.unknown_reply {id} {error} {body = body} front none) =
+target_well {messages = messages} h alike run speaks
+    (IsTargetFault.unknown_reply {id} {error} {body = body} front none) =
     let r : IsReply messages h.unreplied id error body = speaks h.unreplied _ (stands_next h front) in
     let no : None ≡ Some (wire r.command) = sym (pends h id none) ∙ r.pending in cc
 target_well h alike run speaks (IsTargetFault.bad_answer {found} a bad) =

@@ -14,8 +14,8 @@ use Rattle.machine_model.specs.Runs.{Message, Run}
 use Rattle.machine_model.specs.State.{Hand, Machine, is_gone, is_raw}
 use Rattle.machine_steps.proofs.PartTests.{both_pass, passes}
 use Rattle.machine_steps.proofs.Stepping.{IsAt, Moves, by_moves, with_said}
-use Rattle.session_model.specs.Names.{a_composite, a_question, a_raw, a_request, an_effect, Act, finish_one_thread, Item}
-use Rattle.session_model.specs.Names.{Part, Replied, target_end, TargetCommand, Want}
+use Rattle.session_model.specs.Names.{a_composite, a_question, a_raw, a_request, an_effect, Act, finish_one_thread}
+use Rattle.session_model.specs.Names.{Item, Part, Replied, target_end, TargetCommand, Want}
 
 -- What is in hand -----------------------------------------------------------------------------------------------------
 

@@ -39,8 +39,8 @@ abbrev pub has_sizes_of_ids : Replied → Bool
 has_sizes_of_ids (an_answer answer) = has_good_sizes answer
 has_sizes_of_ids (an_error code) = true
 
--- A reply with this id, this error and this body is to a command that has none yet. Unless it is an error, its body reads
--- as an answer to that (JDWP, JDWP Packets, reply packet).
+-- A reply with this id, this error and this body is to a command that has none yet. Unless it is an error, its body
+-- reads as an answer to that (JDWP, JDWP Packets, reply packet).
 pub record IsReply (messages : List Message) (unreplied : List (ℕ × Asked)) (id error : ℕ) (body : List ℕ)
     : Type 0 where
   pub command : TargetCommand
