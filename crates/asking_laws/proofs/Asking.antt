@@ -1,22 +1,23 @@
--- What is sent has been lacking: what stands in the queue was lacking when it was put there, and nothing has failed since.
-use Rattle.std.proofs.Common.{◌≡◌, ◌||◌, Bool, true, false, cond, List, [], ◌∷◌, ◌++◌, Option, Some, None, refl, sym, ap}
-use Rattle.std.proofs.Common.{subst, ◌∙◌, append_assoc, append-nil, not, option_map, arith}
+-- What is sent has been lacking: what stands in the queue was lacking when it was put there, and nothing has failed
+-- since.
+use Rattle.std.proofs.Common.{◌≡◌, ◌||◌, Bool, true, false, cond, List, [], ◌∷◌, ◌++◌, Option, Some, None, refl, sym}
+use Rattle.std.proofs.Common.{ap, subst, ◌∙◌, append_assoc, append-nil, not, option_map, arith}
 use Rattle.std.specs.List.{AllByRecursion as All}
 use Rattle.class_tables.specs.Facts.{Known}
 use Rattle.class_tables.specs.Lookups.{found_in}
 use Rattle.machine_model.specs.Apart.{are_apart, was_asked}
-use Rattle.machine_model.specs.Due.{asked_hand, behind_first, busy, can_read, clear, hand_load, is_listed, lacked_by, lacking_more}
-use Rattle.machine_model.specs.Due.{load_of, newly_lacked, queued, waiting, with_want, with_wants}
+use Rattle.machine_model.specs.Due.{asked_hand, behind_first, busy, can_read, clear, hand_load, is_listed, lacked_by}
+use Rattle.machine_model.specs.Due.{lacking_more, load_of, newly_lacked, queued, waiting, with_want, with_wants}
 use Rattle.machine_model.specs.Facts.{fact_known}
 use Rattle.machine_model.specs.Lookups.{sight_of}
 use Rattle.machine_model.specs.Plans.{answer_in, question_of}
-use Rattle.machine_model.specs.Replying.{filled, given_up, hand_replied, is_failed, is_waiting, learnt, replied_to, told_by}
+use Rattle.machine_model.specs.Replying.{filled, hand_replied, is_failed, is_waiting, learnt, replied_to, told_by}
 use Rattle.machine_model.specs.Replying.{unless_failed}
 use Rattle.machine_model.specs.Runs.{Allows, MayQueue, Message, Run}
 use Rattle.machine_model.specs.State.{Hand, Machine, State, has_waiting, is_empty, is_flying, is_gone}
 use Rattle.machine_model.specs.Telling.{after_event}
 use Rattle.machine_model.proofs.Bools.{first_holds}
-use Rattle.machine_steps.specs.Names.{Doing, Effect, Event, Question, Replied, Sent, TargetCommand, Want, a_question, an_effect}
+use Rattle.machine_steps.specs.Names.{Effect, Event, Question, Replied, Sent, Want, a_question, an_effect}
 use Rattle.machine_steps.proofs.KeptLaws.{always_kept, next_new}
 use Rattle.machine_steps.proofs.RestLaws.{is_free, near_asks}
 use Rattle.machine_steps.proofs.Stepping.{IsAt, Loses, Moves, all_to_ask, by_runs, moved, with_said}
@@ -24,7 +25,8 @@ use Rattle.machine_steps.proofs.Testing.{same_noted, same_numbered, same_replied
 use Rattle.std.proofs.lemmas.Bool.{not-true}
 use Rattle.lacking_laws.specs.Lacking.{HearsOn}
 use Rattle.lacking_laws.proofs.Hearing.{leads_on}
-use Rattle.asking_laws.specs.Asking.{AsksWhatLacks, IsAskedFor, IsLackingSince, is_general, refused_of, tell_little, tells_much}
+use Rattle.asking_laws.specs.Asking.{AsksWhatLacks, IsAskedFor, IsLackingSince, is_general, refused_of, tell_little}
+use Rattle.asking_laws.specs.Asking.{tells_much}
 use Rattle.asking_laws.proofs.Hearing.{hears_itself, hears_reply, hears_then, other_known}
 use Rattle.asking_laws.proofs.Lacking.{Same, lacking_now}
 use Rattle.asking_laws.proofs.Learning.{learnt_loaded, told_plain}
@@ -158,8 +160,8 @@ new_of {hand = hand} r is =
     all_new hand.asked hand.queue (first_holds (are_apart hand.asked hand.queue) _ kept)
 
 -- the item in hand stays as it is, and so does what is known
-same_item : (messages : List Message) (message : Message) (state : State) (held : Option Hand) → Held messages state held
-    → Held (messages ++ message ∷ []) state held
+same_item : (messages : List Message) (message : Message) (state : State) (held : Option Hand)
+    → Held messages state held → Held (messages ++ message ∷ []) state held
 same_item messages message state None h = tt
 same_item messages message state (Some hand) h = record {
   queue = all_on hand.queue h.queue;
@@ -170,8 +172,10 @@ same_item messages message state (Some hand) h = record {
     all_on : (queue : List Want) → All (Since messages state hand) queue
         → All (Since (messages ++ message ∷ []) state hand) queue
     all_on [] h = tt
-    all_on (want ∷ queue) h =
-        (since_on messages message state state hand hand want refl refl (λ little there was same. same) h.0, all_on queue h.1)
+    all_on (want ∷ queue) h = (
+      since_on messages message state state hand hand want refl refl (λ little there was same. same) h.0,
+      all_on queue h.1,
+    )
 
 -- the target's handshake comes
 greeted_item : (messages : List Message) (state : State) (held : Option Hand) → Held messages state held
@@ -240,8 +244,9 @@ lacked_now {messages} m hand now r is near parts asked =
       same = λ little. record {
         state_is = refl;
         loaded = refl;
-        on = subst (λ (asked : List Sent). HearsOn (sight_of m.state hand) (record { classes = found_in m.state.classes; asked = asked }))
-            (sym asked) (hears_itself (sight_of m.state hand));
+        on = subst (λ (asked : List Sent). HearsOn (sight_of m.state hand)
+            (record { classes = found_in m.state.classes; asked = asked })) (sym asked)
+            (hears_itself (sight_of m.state hand));
         unlearnt = refl;
       };
     })
@@ -289,9 +294,10 @@ anew_all {messages} m hand queue r may once =
     }
 
 -- a question goes
-asked_all : (messages : List Message) (message : Message) (state : State) (hand : Hand) (want : Want) (wants : List Want)
-    → hand.queue ≡ want ∷ wants → was_asked (question_of want) hand.asked ≡ false → is_flying hand.effect ≡ false
-    → Holds messages state hand → Holds (messages ++ message ∷ []) state (asked_hand want hand)
+asked_all : (messages : List Message) (message : Message) (state : State) (hand : Hand) (want : Want)
+    (wants : List Want) → hand.queue ≡ want ∷ wants → was_asked (question_of want) hand.asked ≡ false
+    → is_flying hand.effect ≡ false → Holds messages state hand
+    → Holds (messages ++ message ∷ []) state (asked_hand want hand)
 asked_all messages message state hand want wants are new still h = record {
   queue = subst (λ (queue : List Want). All (Since (messages ++ message ∷ []) state (asked_hand want hand))
       (behind_first queue)) (sym are)
@@ -345,9 +351,11 @@ answered_all messages question replied state hand waits new h = record {
 
     plain_same : (failed : Bool) (want : Want) → was_asked (question_of want) hand.asked ≡ false
         → is_general question ≡ false → (there : State) (was : Hand) → Same there was state hand want
-        → Same there was (record state { classes = learnt question (answer_in replied) state.classes }) (now failed) want
+        → Same there was (record state { classes = learnt question (answer_in replied) state.classes }) (now failed)
+        want
     plain_same failed want new plain there was same = record {
-      state_is = ap (λ (s : State). record s { classes = learnt question (answer_in replied) state.classes }) same.state_is;
+      state_is = ap (λ (s : State). record s { classes = learnt question (answer_in replied) state.classes })
+          same.state_is;
       loaded = learnt_loaded question (answer_in replied) state.classes plain ∙ same.loaded;
       on = hears_then same.on (hears_reply state hand question replied plain h.once waits);
       unlearnt = other_known state hand question replied plain h.once waits (question_of want)
@@ -366,8 +374,8 @@ answered_all messages question replied state hand waits new h = record {
         → All (Since (messages ++ message ∷ []) (told_by question replied state) (now failed))
         (unless_failed failed hand.queue)
     by_test true is = tt
-    by_test false is = all_since messages message state (told_by question replied state) hand (now false) hand.queue refl
-        (refused_filled question replied hand.asked is) (told_same false) new h.queue
+    by_test false is = all_since messages message state (told_by question replied state) hand (now false) hand.queue
+        refl (refused_filled question replied hand.asked is) (told_same false) new h.queue
 
 -- a reply comes to an effect: nothing was to be asked
 effect_all : (messages : List Message) (effect : Effect) (replied : Replied) (state : State) (hand : Hand)
@@ -403,17 +411,20 @@ queues_on messages m next said r h (Moves.responds {hand} {outcome = outcome} fr
     freed messages _ m hand _ _ h free at.in_hand (sym (ap is_gone (same_numbered outcome m.state)) ∙ near) refl refl
 queues_on messages m next said r h (Moves.finds {hand} found free at needs done) near =
     freed messages _ m hand _ _ h free at.in_hand near refl refl
-queues_on messages m next said r h (Moves.passes_over {hand} free at why) near = freed messages _ m hand _ _ h free at.in_hand near refl refl
+queues_on messages m next said r h (Moves.passes_over {hand} free at why) near =
+    freed messages _ m hand _ _ h free at.in_hand near refl refl
 queues_on messages m next said r h (Moves.tells {hand} {event = event} free at) near =
     freed messages _ m hand _ _ h free at.in_hand (near_event event m.state near) refl refl
-queues_on messages m next said r h (Moves.sends {hand} free at there) near = freed messages _ m hand _ _ h free at.in_hand there refl refl
+queues_on messages m next said r h (Moves.sends {hand} free at there) near =
+    freed messages _ m hand _ _ h free at.in_hand there refl refl
 queues_on messages m next said r h (Moves.updates {hand} free at is there) near =
     freed messages _ m hand _ _ h free at.in_hand there refl refl
 queues_on messages m next said r h (Moves.greets {hand} free at is there) near =
     put at.in_hand (freed messages _ m hand _ hand h free at.in_hand there refl refl)
 queues_on messages m next said r h (Moves.notes {hand} {note = note} free at) near =
     freed messages _ m hand _ _ h free at.in_hand (sym (ap is_gone (same_noted note m.state)) ∙ near) refl refl
-queues_on messages m next said r h (Moves.unfolds {hand} free at) near = freed messages _ m hand _ _ h free at.in_hand near refl refl
+queues_on messages m next said r h (Moves.unfolds {hand} free at) near =
+    freed messages _ m hand _ _ h free at.in_hand near refl refl
 queues_on messages m next said r h (Moves.queues {hand} free is) near =
     queued_all m hand r is near (still_lacks m hand free is) (taken is (h near)).once
 queues_on messages m next said r h (Moves.asks {hand} {want} {wants} free room is are) near =
@@ -430,8 +441,8 @@ queues_on messages m next said r h (Moves.answers {question} {replied} {hand} is
     (taken is (h (sym (ap is_gone (same_replied (a_question question) replied m.state)) ∙ near))))
 queues_on messages m next said r h (Moves.replies {effect} {replied} {hand} is flying reply stays) near =
     subst (λ (held : Option Hand). Held (messages ++ Message.answers (an_effect effect) replied ∷ [])
-    (replied_to (an_effect effect) replied m.state) (option_map (hand_replied (an_effect effect) replied) held)) (sym is)
-    (effect_all messages effect replied m.state hand flying (taken is (h near)))
+    (replied_to (an_effect effect) replied m.state) (option_map (hand_replied (an_effect effect) replied) held))
+    (sym is) (effect_all messages effect replied m.state hand flying (taken is (h near)))
 queues_on messages m next said r h (Moves.loses late there why) near = let no : true ≡ false = near in cc
 queues_on messages m next said r h _ near = same_item messages _ m.state m.hand (h near)
 

@@ -1,6 +1,6 @@
 -- What a part has lacked, and that wasn't sent since, it lacks on, unless its look-up has failed.
-use Rattle.std.proofs.Common.{◌≡◌, ◌⊎◌, inl, inr, Bool, true, false, List, [], ◌∷◌, ◌++◌, Option, Some, None, refl, sym, ap}
-use Rattle.std.proofs.Common.{subst, ◌∙◌}
+use Rattle.std.proofs.Common.{◌≡◌, ◌⊎◌, inl, inr, Bool, true, false, List, [], ◌∷◌, ◌++◌, Option, Some, None, refl, sym}
+use Rattle.std.proofs.Common.{ap, subst, ◌∙◌}
 use Rattle.std.specs.List.{AllByRecursion as All}
 use Rattle.class_tables.specs.Facts.{Known, nothing}
 use Rattle.class_tables.specs.Lookups.{Lookups, found_in}
@@ -11,9 +11,9 @@ use Rattle.machine_model.specs.Classes.{classes_plan}
 use Rattle.machine_model.specs.Due.{asked_by, greeted_by, lacked_by, sized_by, way}
 use Rattle.machine_model.specs.Facts.{fact_known}
 use Rattle.machine_model.specs.Lookups.{found_for, plan, sight_of}
-use Rattle.machine_model.specs.Plans.{Fault, Found, Need, Plan, Sight, after, beside, fact_heard, fails, found_from, gives, has}
-use Rattle.machine_model.specs.Plans.{heard_of, lacking, lacks, made_with, may_hear, must_by, must_hear, need, pairs}
-use Rattle.machine_model.specs.Plans.{question_of, tries, try_hear, wants}
+use Rattle.machine_model.specs.Plans.{Fault, Found, Need, Plan, Sight, after, beside, fact_heard, fails, found_from}
+use Rattle.machine_model.specs.Plans.{gives, has, heard_of, lacking, lacks, made_with, may_hear, must_by, must_hear}
+use Rattle.machine_model.specs.Plans.{need, pairs, question_of, tries, try_hear, wants}
 use Rattle.machine_model.specs.State.{Hand, State}
 use Rattle.machine_steps.specs.Names.{Answer, Guard, Handshake, IdSizes, Lookup, Part, Question, Replied, Want}
 use Rattle.machine_steps.specs.Names.{an_answer, an_error, class_facts, classes_found}
@@ -126,9 +126,11 @@ pub record Same (there : State) (was : Hand) (state : State) (hand : Hand) (want
 same_classes : (unlisted : Bool) (wanted : Wanted) (classes other : Known) → classes.loaded ≡ other.loaded
     → classes_plan unlisted wanted (found_in classes) ≡ classes_plan unlisted wanted (found_in other)
 same_classes true wanted classes other same =
-    ap (λ (loaded : List (ClassId × Loaded)). classes_plan true wanted (found_in (record nothing { loaded = loaded }))) same
+    ap (λ (loaded : List (ClassId × Loaded)). classes_plan true wanted (found_in (record nothing { loaded = loaded })))
+    same
 same_classes false wanted classes other same =
-    ap (λ (loaded : List (ClassId × Loaded)). classes_plan false wanted (found_in (record nothing { loaded = loaded }))) same
+    ap (λ (loaded : List (ClassId × Loaded)). classes_plan false wanted (found_in (record nothing { loaded = loaded })))
+    same
 
 -- no other plan depends on what is known of classes
 plan_as : (lookup : Lookup) (there : State) (heard : Bool) (classes : Known) → classes.loaded ≡ there.classes.loaded
@@ -163,7 +165,8 @@ still {more = more} {new = new} front back want (Grows.lacked h) is unheard = by
     (pick more (lacking new) front back want
     (subst (λ (list : List Want). AreHeardOr more (lacking new) list) is h))
   where
-    by_two : IsHeard more want ⊎ Has want (lacking new) → Has want (lacking new) ⊎ ((fault : Fault) × (new ≡ fails fault))
+    by_two : IsHeard more want ⊎ Has want (lacking new)
+        → Has want (lacking new) ⊎ ((fault : Fault) × (new ≡ fails fault))
     by_two (inl heard) = absurd (unheard heard)
     by_two (inr there) = inl there
 
@@ -216,7 +219,8 @@ lacking_now state there hand was want before after lacked parts new same = by_pa
 
         grows : Grows (sight_of state hand) (found_for lookup there was) (found_for lookup state hand)
         grows = subst (λ p. Grows (sight_of state hand) (found_for lookup there was) (need (sight_of state hand) p))
-            (sym (plan_same lookup same)) (lacks_on (sight_of there was) (sight_of state hand) same.on (plan lookup there))
+            (sym (plan_same lookup same))
+            (lacks_on (sight_of there was) (sight_of state hand) same.on (plan lookup there))
 
         by_two : Has want (lacking (found_for lookup state hand))
             ⊎ ((fault : Fault) × (found_for lookup state hand ≡ fails fault))
@@ -230,5 +234,6 @@ lacking_now state there hand was want before after lacked parts new same = by_pa
         → IsLackingNow state hand want
     by_parts (Part.Looks lookup ∷ rest) is lacked = looks lookup rest is lacked
     by_parts (Part.Awaits guard ∷ rest) is lacked = IsLackingNow.lacks before after
-        (ap (lacked_by state hand) is ∙ guard_same guard state there (ap (λ (s : State). s.sizes) same.state_is) ∙ lacked)
+        (ap (lacked_by state hand) is ∙ guard_same guard state there (ap (λ (s : State). s.sizes) same.state_is)
+        ∙ lacked)
     by_parts _ is lacked = absurd (no_list before after want lacked)

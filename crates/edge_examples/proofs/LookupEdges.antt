@@ -1,6 +1,6 @@
 -- Worked examples of what look-ups ask and find, at their edges.
-use Rattle.std.proofs.Common.{◌≡◌, ℕ, zero, suc, Bool, true, false, cond, List, [], ◌∷◌, Option, Some, None, refl, negsuc, pos}
-use Rattle.std.proofs.Common.{map}
+use Rattle.std.proofs.Common.{◌≡◌, ℕ, zero, suc, Bool, true, false, cond, List, [], ◌∷◌, Option, Some, None, refl}
+use Rattle.std.proofs.Common.{map, negsuc, pos}
 use Rattle.std.specs.Prelude.{Result, Err, Ok, codes}
 use Rattle.std.specs.Str.{chars, is_utf8}
 use lib.Utf8.{encode}
@@ -20,7 +20,7 @@ use Rattle.machine_model.specs.Due.{due, load_of, newly_lacked, wanted}
 use Rattle.machine_model.specs.Exceptions.{exception_plan}
 use Rattle.machine_model.specs.Keys.{same_question}
 use Rattle.machine_model.specs.Names.{Answer, Question, Request, Variables, an_answer, an_error}
-use Rattle.machine_model.specs.Plans.{Refusal, Sight, chained, each, has, lacks, made_with, need, no_thread, other_error}
+use Rattle.machine_model.specs.Plans.{Refusal, Sight, chained, each, has, made_with, need, no_thread, other_error}
 use Rattle.machine_model.specs.Plans.{tried_of}
 use Rattle.machine_model.specs.References.{has_room}
 use Rattle.machine_model.specs.Replying.{answered}
@@ -59,7 +59,8 @@ asks_two = refl
 
 -- Where the first is refused before the other was asked for, the other isn't asked for any more (JDWP, Error Constants,
 -- INVALID_FRAMEID).
-asks_one : said_on 8 (answered (until_said 8 (heard opened lists)) (a_question (questions.ThisObject one upper)) (an_error 30))
+asks_one : said_on 8 (answered (until_said 8 (heard opened lists)) (a_question (questions.ThisObject one upper))
+    (an_error 30))
     ≡ responds lists (outcomes.Failure (target_error 30)) ∷ []
 unfolding due wanted load_of newly_lacked next_change wished need chained made_with each key_of chars encode lossy
     lossy_after is_utf8
@@ -72,8 +73,8 @@ object id = record { 0 = id }
 
 -- Questions are apart that differ in a sign, in an order, in a tag, or in the command alone.
 are_apart : (same_question (questions.Frames one (pos 1) (pos 1)) (questions.Frames one (negsuc 1) (pos 1)) ≡ false)
-    × (same_question (questions.GetElements (object 5) (pos 0) (pos 2)) (questions.GetElements (object 5) (pos 2) (pos 0))
-    ≡ false)
+    × (same_question (questions.GetElements (object 5) (pos 0) (pos 2))
+    (questions.GetElements (object 5) (pos 2) (pos 0)) ≡ false)
     × (same_question (questions.GetSlots one upper (record { slot = pos 1; tag = 73 } ∷ []))
     (questions.GetSlots one upper (record { slot = pos 1; tag = 74 } ∷ [])) ≡ false)
     × (same_question (questions.LineTable (class 16) (record { 0 = 3 })) (questions.VariableTable (class 16)

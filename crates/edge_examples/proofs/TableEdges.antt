@@ -37,7 +37,8 @@ use Rattle.edge_examples.proofs.Words.{one}
 -- The starts and the ends of threads suspend nothing, and all else suspends the whole target.
 sets_requests : (set_of wishes.ThreadStart ≡ effects.Set kinds.ThreadStart NoThread [])
     × (set_of wishes.ThreadDeath ≡ effects.Set kinds.ThreadDeath NoThread [])
-    × (set_of (wishes.Watch (codes "a.b")) ≡ effects.Set kinds.ClassPrepare All (modifiers.ClassMatch (codes "a.b.*") ∷ []))
+    × (set_of (wishes.Watch (codes "a.b"))
+    ≡ effects.Set kinds.ClassPrepare All (modifiers.ClassMatch (codes "a.b.*") ∷ []))
     × (set_of (wishes.Watch []) ≡ effects.Set kinds.ClassPrepare All (modifiers.ClassMatch (codes "*") ∷ []))
     × (set_of (wishes.Stop (at 5)) ≡ effects.Set kinds.Breakpoint All (modifiers.LocationOnly (at 5) ∷ []))
     × (set_of (wishes.Thrown true false)
@@ -45,7 +46,8 @@ sets_requests : (set_of wishes.ThreadStart ≡ effects.Set kinds.ThreadStart NoT
 sets_requests = (refl, refl, refl, refl, refl, refl)
 
 -- a step is one of a line (JDWP, Constants, StepDepth and StepSize)
-sets_steps : (set_of (wishes.Step one Into) ≡ effects.Set kinds.SingleStep All (modifiers.Step one (pos 1) (pos 0) ∷ []))
+sets_steps :
+    (set_of (wishes.Step one Into) ≡ effects.Set kinds.SingleStep All (modifiers.Step one (pos 1) (pos 0) ∷ []))
     × (set_of (wishes.Step one Over) ≡ effects.Set kinds.SingleStep All (modifiers.Step one (pos 1) (pos 1) ∷ []))
     × (set_of (wishes.Step one Out) ≡ effects.Set kinds.SingleStep All (modifiers.Step one (pos 1) (pos 2) ∷ []))
 sets_steps = (refl, refl, refl)
@@ -56,15 +58,17 @@ clears_requests = (refl, refl)
 
 -- Replies -------------------------------------------------------------------------------------------------------------
 
--- whether an error shows the target's end, that of a target that has ended, and another (JDWP, Error Constants, VM_DEAD)
+-- whether an error shows the target's end: that of a target that has ended, and another (JDWP, Error Constants,
+-- VM_DEAD)
 abbrev ends : TargetCommand → Bool × Bool
 ends command = (is_end command (an_error 112), is_end command (an_error 13))
 
 -- A target that is left may say that it has ended: it shows no end of its own.
 shows_ends : map ends (an_effect (Does Dispose) ∷ an_effect (Does Exit) ∷ an_effect (Does Suspend)
-    ∷ an_effect (Does (Resume of_stop)) ∷ an_effect (Set (wishes.Stop (at 5))) ∷ an_effect (Clear (wishes.Stop (at 5)) 4)
-    ∷ a_question questions.AllThreads ∷ [])
-    ≡ (false, false) ∷ (false, false) ∷ (true, false) ∷ (true, false) ∷ (true, false) ∷ (true, false) ∷ (true, false) ∷ []
+    ∷ an_effect (Does (Resume of_stop)) ∷ an_effect (Set (wishes.Stop (at 5)))
+    ∷ an_effect (Clear (wishes.Stop (at 5)) 4) ∷ a_question questions.AllThreads ∷ [])
+    ≡ (false, false) ∷ (false, false) ∷ (true, false) ∷ (true, false) ∷ (true, false) ∷ (true, false)
+    ∷ (true, false) ∷ []
 shows_ends = refl
 
 -- All classes are to be listed behind the watch of a package that the target grants, and behind nothing else; what was
